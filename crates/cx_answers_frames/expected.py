@@ -4,6 +4,7 @@ tables of docs/formats.md. It knows nothing of the crates. AES-GCM is that of th
 import struct
 import sys
 
+from streams import Streams
 from cryptography.hazmat.primitives.ciphers.aead import AESGCM
 
 
@@ -220,9 +221,13 @@ def secure(words):
 
 
 KINDS = {"banner": banner, "plain": plain, "plain-of": plain_of, "secure": secure, "secure-of": secure_of}
+STREAMS = Streams()
 for row in sys.stdin.read().splitlines():
     if not row or row.startswith("#"):
         print(row)
-    else:
-        kind, words = row.split(" ", 1)
+        continue
+    kind, words = row.split(" ", 1)
+    if kind in KINDS:
         sys.stdout.write(KINDS[kind](words))
+    else:
+        STREAMS.told(row)

@@ -2,13 +2,13 @@
 
 ghost use Rattle.std.specs.Prelude.{◌<◌};
 
-use cx_answering::hear;
 use cx_answers_rows::{Draws, Others, client_name, reading_of, server_of};
 use cx_base::{Blob, Items, Reading};
 use cx_dice::Draw;
 use cx_frame::{Frame, Segment};
 use cx_journal::Reason;
 use cx_keyserver::KeyServer;
+use cx_mon::hear;
 use cx_mon_grants::{Bearer, Occasion, Response, answer};
 use cx_steps::{Effects, Event};
 use cx_wire::Request;

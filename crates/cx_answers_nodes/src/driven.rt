@@ -2,18 +2,16 @@
 
 ghost use Rattle.std.specs.Prelude.{◌≡◌, ◌<◌, length};
 ghost use Rattle.std.specs.List.{list_all};
-ghost use Rattle.cx_clock.specs.Readings.{is_clock_reading};
+ghost use Rattle.cx_outside.specs.timing.Readings.{is_clock_reading};
 
 use crate::shown::told_run;
 use cx_answers_rows::local;
 use cx_base::{Blob, Items, Reading};
-use cx_clock::ListClock;
 use cx_dice::SeedDice;
 use cx_drive::{Driven, Machine, Order, Peers, drive};
 use cx_journal::Journal;
 use cx_keep::VecKeeper;
-use cx_links::{LinkEvent, ScriptLinks};
-use cx_site::{Did, Hosted, Site, Taped};
+use cx_outside::{Did, Hosted, LinkEvent, ListClock, ScriptLinks, Site, Taped};
 use std::alloc::{AllocError, Global};
 
 /// What lies outside of a node: what comes on its links, what its clock reads, the seed of its dice; the numbers of the calls of each that

@@ -5,8 +5,8 @@ use cx_answers_rows::{Named, client_of, monitor_of, seed_of};
 use cx_base::{Blob, SECOND};
 use cx_client::Client;
 use cx_drive::{Order, Told};
-use cx_links::LinkEvent;
 use cx_mon::Monitor;
+use cx_outside::LinkEvent;
 use cx_steps::Command;
 use std::alloc::{AllocError, Global};
 

@@ -5,8 +5,7 @@ use cx_answers_rows::{Ascii, Hex};
 use cx_base::Blob;
 use cx_drive::{Driven, Ended, Stop};
 use cx_journal::{Journal, put_text};
-use cx_links::LinkEvent;
-use cx_site::Did;
+use cx_outside::{Did, LinkEvent};
 use std::alloc::{AllocError, Global};
 use std::fmt::Write;
 

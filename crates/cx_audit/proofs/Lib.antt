@@ -1,1 +1,3 @@
+pub mod indexed
+pub mod ruled
 pub mod Within

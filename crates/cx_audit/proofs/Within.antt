@@ -2,10 +2,10 @@
 use Rattle.std.proofs.Common.{◌≡◌, ℕ, ◌+◌, ◌<◌, List, [], ◌∷◌, ◌++◌, length, Option, Some, refl, ap, subst, ◌∙◌, arith, length-append}
 use Rattle.std.specs.List.{filter_map}
 use Rattle.cx_journal.specs.declared.entries.Entry.{Entry}
-use Rattle.cx_journal_lines.specs.declared.entries.JournalLine.{JournalLine}
-use Rattle.cx_journal_lines.specs.declared.entries.JournalLine.TheVariants as line
-use Rattle.cx_journal_rules.specs.Rules.{IsFirstBreach, IsFound}
-use Rattle.cx_journal_rules.specs.declared.rules.Breach.{Breach}
+use Rattle.cx_audit_text.specs.declared.entries.JournalLine.{JournalLine}
+use Rattle.cx_audit_text.specs.declared.entries.JournalLine.TheVariants as line
+use Rattle.cx_audit.specs.ruled.Rules.{IsFirstBreach, IsFound}
+use Rattle.cx_audit.specs.declared.rules.Breach.{Breach}
 use Rattle.cx_audit.specs.Verdicts.{entry_numbers, entry_of}
 
 as_many : (n : ℕ) (said : List JournalLine) → length (entry_numbers n said) ≡ length (filter_map entry_of said)

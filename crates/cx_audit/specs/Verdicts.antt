@@ -7,13 +7,13 @@ use Rattle.cx_audit.specs.declared.verdicts.Verdict.{Verdict}
 use Rattle.cx_audit.specs.declared.verdicts.Verdict.TheVariants as verdict
 use Rattle.cx_journal.specs.Legal.{IsLegal}
 use Rattle.cx_journal.specs.declared.entries.Entry.{Entry}
-use Rattle.cx_journal_lines.specs.Reading.{IsFirstBad, IsJournal, nothing}
-use Rattle.cx_journal_lines.specs.declared.entries.JournalLine.{JournalLine}
-use Rattle.cx_journal_lines.specs.declared.entries.JournalLine.TheVariants as line
-use Rattle.cx_journal_lines.specs.declared.refusals.WrongLine.{WrongLine}
-use Rattle.cx_journal_rules.specs.Rules.{IsFirstBreach}
-use Rattle.cx_journal_rules.specs.declared.rules.Breach.{Breach}
-use Rattle.cx_journal_rules.specs.declared.rules.Rule.{Rule}
+use Rattle.cx_audit_text.specs.lines.Reading.{IsFirstBad, IsJournal, nothing}
+use Rattle.cx_audit_text.specs.declared.entries.JournalLine.{JournalLine}
+use Rattle.cx_audit_text.specs.declared.entries.JournalLine.TheVariants as line
+use Rattle.cx_audit_text.specs.declared.refusals.WrongLine.{WrongLine}
+use Rattle.cx_audit.specs.ruled.Rules.{IsFirstBreach}
+use Rattle.cx_audit.specs.declared.rules.Breach.{Breach}
+use Rattle.cx_audit.specs.declared.rules.Rule.{Rule}
 use Rattle.cx_words.specs.Cutting.{lines_of}
 
 -- the entry that a line says, where it says one

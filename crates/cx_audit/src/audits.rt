@@ -4,16 +4,16 @@ ghost use Rattle.std.specs.Prelude.{ℕ, ◌≡◌, List, IfOk, IfErr, MatchResu
 ghost use Rattle.std.specs.List.{filter_map};
 ghost use Rattle.cx_audit.specs.Verdicts.{IsAudit, IsAuditCause, IsRefusedAt, IsVerdict, entry_numbers, entry_of};
 ghost use Rattle.cx_audit.specs.declared.verdicts.AuditRefusal.{AuditRefusal};
-ghost use Rattle.cx_journal_lines.specs.Reading.{IsFirstBad, IsJournal, nothing};
-ghost use Rattle.cx_journal_lines.specs.declared.entries.JournalLine.{JournalLine};
-ghost use Rattle.cx_journal_lines.specs.declared.refusals.WrongLine.{WrongLine};
+ghost use Rattle.cx_audit_text.specs.lines.Reading.{IsFirstBad, IsJournal, nothing};
+ghost use Rattle.cx_audit_text.specs.declared.entries.JournalLine.{JournalLine};
+ghost use Rattle.cx_audit_text.specs.declared.refusals.WrongLine.{WrongLine};
 ghost use Rattle.cx_words.specs.Cutting.{IsShort, lines_of};
 
+use crate::first_breach;
 use crate::verdicts::{AuditRefusal, Verdict};
+use cx_audit_text::{JournalLine, JournalRefusal, read};
 use cx_base::Duplicate;
 use cx_journal::Entry;
-use cx_journal_lines::{JournalLine, JournalRefusal, read};
-use cx_journal_rules::first_breach;
 use std::alloc::{AllocError, Global};
 
 /// What is said of the text of a journal, whoever wrote it. It is legal exactly where no line breaks a rule, which is exactly

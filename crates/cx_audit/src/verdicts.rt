@@ -1,7 +1,7 @@
 //! What an audit comes to.
 
-use cx_journal_lines::{JournalRefusal, WrongLine};
-use cx_journal_rules::Rule;
+use crate::Rule;
+use cx_audit_text::{JournalRefusal, WrongLine};
 use std::alloc::AllocError;
 
 /// What is said of a journal.

@@ -1,13 +1,13 @@
 -- Where nothing happens, the step is that of the rules.
 use Rattle.std.proofs.Common.{◌≡◌, List}
 use Rattle.cx_node.specs.cx_rules.specs.Rows.{idles}
-use Rattle.cx_client_calls.specs.cx_rules_session.specs.ClientRule.{WholeClient}
+use Rattle.cx_client.specs.cx_rules_session.specs.ClientRule.{WholeClient}
 use Rattle.cx_steps.specs.Nothing.{nothing}
 use Rattle.cx_steps.specs.declared.effects.Effects.{Effects}
-use Rattle.cx_turns.specs.Steps.{node_of}
-use Rattle.cx_client_calls.specs.cx_client_links.specs.Kinds.{ClientLink}
+use Rattle.cx_node.specs.steps.Steps.{node_of}
+use Rattle.cx_client.specs.cx_client_events.specs.linking.Kinds.{ClientLink}
 use Rattle.cx_client.specs.Machine.{AreHeld, IsStep}
-use Rattle.cx_client_calls.specs.cx_client_events.proofs.Steps as events
+use Rattle.cx_client.specs.cx_client_events.proofs.Steps as events
 
 pub idles_step : (own : WholeClient) (all links : List ClientLink) (given : Effects) → AreHeld all → links ≡ all → given ≡ nothing
     → IsStep (node_of own links) (idles (node_of own all)) given

@@ -1,8 +1,8 @@
 -- What is so of a result that went well, or of one that didn't, is so of what it is one with.
 use Rattle.std.proofs.Common.{◌≡◌, ◌∙◌, Result, Ok, Err, sym, subst}
 use Rattle.std.specs.Prelude.{OnErr, OnOk}
-use Rattle.cx_client_calls.specs.cx_rules_session.specs.ClientRule.{WholeClientNode}
-use Rattle.cx_client_calls.specs.cx_rules_session.specs.Forgets.{WholeClientStandsFor}
+use Rattle.cx_client.specs.cx_rules_session.specs.ClientRule.{WholeClientNode}
+use Rattle.cx_client.specs.cx_rules_session.specs.Forgets.{WholeClientStandsFor}
 
 pub same_on_ok : {X E A : Type 0} (r : Result X E) (a b d : A) → OnOk r (a ≡ b) → b ≡ d → OnOk r (a ≡ d)
 same_on_ok (Ok x) a b d is same = is ∙ same

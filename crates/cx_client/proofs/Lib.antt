@@ -1,3 +1,4 @@
+pub mod calls
 pub mod Idling
 pub mod Kept
 pub mod Regarding

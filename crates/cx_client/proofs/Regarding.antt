@@ -2,11 +2,11 @@
 use Rattle.std.proofs.Common.{◌≡◌, ◌∙◌, ℕ, List, Option, Some, None, refl, ap}
 use Rattle.std.specs.Option.{option_map}
 use Rattle.cx_client.specs.Regards.{regard_at, regard_of}
-use Rattle.cx_client_calls.specs.cx_rules_session.proofs.WholeClientForgets.{client-forgets-links}
-use Rattle.cx_client_calls.specs.cx_rules_session.specs.ClientRule.{ClientStage, ToMonitor, ToDaemon, WholeClientNode}
-use Rattle.cx_client_calls.specs.cx_rules_session.specs.Forgets.{WholeClientStandsFor, abridged_client_link}
-use Rattle.cx_client_calls.specs.cx_rules_session.specs.Presenter as call
-use Rattle.cx_client_calls.specs.cx_rules_session.specs.Sessions.{HeldSession}
+use Rattle.cx_client.specs.cx_rules_session.proofs.WholeClientForgets.{client-forgets-links}
+use Rattle.cx_client.specs.cx_rules_session.specs.ClientRule.{ClientStage, ToMonitor, ToDaemon, WholeClientNode}
+use Rattle.cx_client.specs.cx_rules_session.specs.Forgets.{WholeClientStandsFor, abridged_client_link}
+use Rattle.cx_client.specs.cx_rules_session.specs.Presenter as call
+use Rattle.cx_client.specs.cx_rules_session.specs.Sessions.{HeldSession}
 use Rattle.cx_node.specs.cx_rules.proofs.Abridging.{link_of_map}
 use Rattle.cx_node.specs.cx_rules.specs.Connector as connector
 use Rattle.cx_node.specs.cx_rules.specs.Links.{Link, link_of}

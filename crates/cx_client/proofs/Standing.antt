@@ -3,11 +3,11 @@ use Rattle.std.proofs.Common.{ℕ, Option, Some, None}
 use Rattle.cx_node.specs.cx_rules.specs.Inputs as input
 use Rattle.cx_node.specs.cx_rules.specs.Inputs.{Input}
 use Rattle.cx_node.specs.cx_rules.specs.Rows.{forgotten}
-use Rattle.cx_client_calls.specs.cx_rules_session.specs.ClientRule.{WholeClientNode, undialled}
-use Rattle.cx_client_calls.specs.cx_rules_session.specs.Forgets.{WholeClientStandsFor}
+use Rattle.cx_client.specs.cx_rules_session.specs.ClientRule.{WholeClientNode, undialled}
+use Rattle.cx_client.specs.cx_rules_session.specs.Forgets.{WholeClientStandsFor}
 use Rattle.cx_steps.specs.declared.events.Peer.{Peer}
-use Rattle.cx_turns.specs.Events.{link_in}
-use Rattle.cx_turns.specs.Steps.{without_lost}
+use Rattle.cx_node.specs.steps.Events.{link_in}
+use Rattle.cx_node.specs.steps.Steps.{without_lost}
 use Rattle.cx_client.specs.Machine.{lost, undialled_at}
 
 module _ (loses : (c s : WholeClientNode) (n : ℕ) → WholeClientStandsFor c s → WholeClientStandsFor (forgotten c n) (forgotten s n))

@@ -2,21 +2,20 @@
 
 ghost use Rattle.std.specs.Prelude.{◌≡◌, OnOk, OnErr, if◌then◌else◌};
 ghost use Rattle.cx_node.specs.cx_rules.specs.Inputs.{input_of};
-ghost use Rattle.cx_client_calls.specs.cx_rules_session.specs.ClientRule.{WholeClientNode, is_idle, opening_whole_client, whole_client_rule};
-ghost use Rattle.cx_client_calls.specs.cx_rules_session.specs.Forgets.{WholeClientStandsFor, abridged_whole_client};
-ghost use Rattle.cx_turns.specs.Events.{losing};
-ghost use Rattle.cx_client.specs.Machine.{IsWritableInput, lost, opening_asker};
+ghost use Rattle.cx_client.specs.cx_rules_session.specs.ClientRule.{WholeClientNode, is_idle, opening_whole_client, whole_client_rule};
+ghost use Rattle.cx_client.specs.cx_rules_session.specs.Forgets.{WholeClientStandsFor, abridged_whole_client};
+ghost use Rattle.cx_node.specs.steps.Events.{losing};
+ghost use Rattle.cx_client.specs.Machine.{IsWritableInput, lost, opening_mon_client};
 ghost use Rattle.cx_client.specs.Regards.{regard_of};
 
 use crate::steps::steps;
+use crate::{Link, MonClient, OfferedModes, Own, are_at_rest, client_forgetting_laws};
 use cx_base::{Addr, EntityName, Reading};
-use cx_client_calls::{Asker, Link, OfferedModes, Own, are_at_rest, client_forgetting_laws};
 use cx_dice::Draw;
 use cx_enc::Key;
-use cx_links::Regard;
-use cx_node::Links;
+use cx_node::{Links, link_in, wanting};
+use cx_outside::Regard;
 use cx_steps::{Effects, Event};
-use cx_turns::{link_in, wanting};
 use std::alloc::{AllocError, Global};
 use std::marker::Model;
 
@@ -29,8 +28,8 @@ pub struct Client {
 
 impl Model for Client {
     ghost use Rattle.std.specs.Prelude.{◌≡◌, None};
-    ghost use Rattle.cx_client_calls.specs.cx_rules_session.specs.ClientRule.{WholeClientNode};
-    ghost use Rattle.cx_turns.specs.Steps.{node_of};
+    ghost use Rattle.cx_client.specs.cx_rules_session.specs.ClientRule.{WholeClientNode};
+    ghost use Rattle.cx_node.specs.steps.Steps.{node_of};
     ghost use Rattle.cx_client.specs.Machine.{AreHeld};
 
     ghost Value = { WholeClientNode };
@@ -43,12 +42,12 @@ impl Model for Client {
 impl Client {
     /// A client as it begins: its name and its key, the modes that it offers, and its address. It holds no ticket and no session.
     pub fn new(alloc: Global, name: EntityName, key: Key, modes: OfferedModes, me: Addr) -> Client
-        ensures value { result ≡ opening_whole_client (opening_asker name key modes me) }
-        ensures stands { WholeClientStandsFor result (opening_whole_client (opening_asker name key modes me)) }
+        ensures value { result ≡ opening_whole_client (opening_mon_client name key modes me) }
+        ensures stands { WholeClientStandsFor result (opening_whole_client (opening_mon_client name key modes me)) }
     {
         client_forgetting_laws();
         Client {
-            own: Own::new(alloc, Asker::new(name, key, me, modes)),
+            own: Own::new(alloc, MonClient::new(name, key, me, modes)),
             links: Links::new(alloc),
         }
     }

@@ -2,18 +2,17 @@
 
 ghost use Rattle.std.specs.Prelude.{◌≡◌, None, IfOk, OnErr};
 ghost use Rattle.cx_node.specs.cx_rules.specs.Inputs.{input_of};
-ghost use Rattle.cx_client_calls.specs.cx_rules_session.specs.ClientRule as rule;
-ghost use Rattle.cx_turns.specs.Steps.{node_of};
+ghost use Rattle.cx_client.specs.cx_rules_session.specs.ClientRule as rule;
+ghost use Rattle.cx_node.specs.steps.Steps.{node_of};
 ghost use Rattle.cx_client.specs.Machine.{AreHeld, IsStep, IsWritableCommand, IsWritableInput, lost};
 
-use cx_base::Reading;
-use cx_client_calls::{
+use crate::{
     Link, Own, comes, connects, goes, logs_in, opens, opens_none, renews, restarts, sends, turns,
 };
+use cx_base::Reading;
 use cx_dice::Draw;
-use cx_node::Links;
+use cx_node::{Links, Moment};
 use cx_steps::{Command, Effects, Event};
-use cx_turns::Moment;
 use std::alloc::{AllocError, Global};
 
 // What the client does at an event.

@@ -9,21 +9,21 @@ use Rattle.cx_node.specs.cx_rules.specs.Connector.{kept_open}
 use Rattle.cx_node.specs.cx_rules.specs.Links.{Link}
 use Rattle.cx_node.specs.cx_rules.specs.Requests.{Requests}
 use Rattle.cx_node.specs.cx_rules.specs.Secured.{Secured}
-use Rattle.cx_client_links.specs.cx_rules_session.specs.ClientRule.{ClientStage, ToDaemon, ToMonitor, WholeClient, WholeClientNode, is_to_monitor, logs_in, renews, waits_for_login}
-use Rattle.cx_client_links.specs.cx_rules_session.specs.Forgets.{abridged_client_at, abridged_client_link}
-use Rattle.cx_client_links.specs.cx_rules_session.proofs.WholeClientForgets.{client-forgets-links}
+use Rattle.cx_client_events.specs.cx_rules_session.specs.ClientRule.{ClientStage, ToDaemon, ToMonitor, WholeClient, WholeClientNode, is_to_monitor, logs_in, renews, waits_for_login}
+use Rattle.cx_client_events.specs.cx_rules_session.specs.Forgets.{abridged_client_at, abridged_client_link}
+use Rattle.cx_client_events.specs.cx_rules_session.proofs.WholeClientForgets.{client-forgets-links}
 use Rattle.cx_steps.specs.Nothing.{nothing}
 use Rattle.cx_steps.specs.declared.effects.Effects.{Effects}
 use Rattle.cx_steps.specs.declared.events.Peer.TheVariants.{Monitor}
-use Rattle.cx_turns.specs.Making.{row_due}
-use Rattle.cx_turns.specs.Steps.{node_of}
-use Rattle.cx_turns.specs.Turns.{IsCarried}
-use Rattle.cx_turns.proofs.Steps as steps
-use Rattle.cx_client_links.specs.cx_kinds.proofs.Leaving as leaving
-use Rattle.cx_client_links.specs.cx_kinds.proofs.Shutting.{left_by, left_picked}
-use Rattle.cx_client_links.specs.Kinds.{ClientLink}
-use Rattle.cx_client_links.specs.Scans.{IsFirstOpen}
-use Rattle.cx_client_links.proofs.Scanning.{open_keeps}
+use Rattle.cx_node.specs.steps.Making.{row_due}
+use Rattle.cx_node.specs.steps.Steps.{node_of}
+use Rattle.cx_node.specs.steps.Turns.{IsCarried}
+use Rattle.cx_node.proofs.steps.Steps as steps
+use Rattle.cx_client_events.specs.cx_node.proofs.kinds.Leaving as leaving
+use Rattle.cx_client_events.specs.cx_node.proofs.kinds.Shutting.{left_by, left_picked}
+use Rattle.cx_client_events.specs.linking.Kinds.{ClientLink}
+use Rattle.cx_client_events.specs.linking.Scans.{IsFirstOpen}
+use Rattle.cx_client_events.proofs.linking.Scanning.{open_keeps}
 use Rattle.cx_client_events.specs.Machine.{AreHeld, IsStep, tickets_asked}
 
 -- ---- Login

@@ -5,15 +5,15 @@ use Rattle.cx_journal.specs.declared.outcomes.Reason.TheVariants.{Lost}
 use Rattle.cx_node.specs.cx_rules.specs.Connector as connector
 use Rattle.cx_node.specs.cx_rules.specs.Links.{Link, without_link}
 use Rattle.cx_node.specs.cx_rules.specs.Rows.{refused_entry}
-use Rattle.cx_client_links.specs.cx_rules_session.specs.ClientRule.{ToDaemon, ToMonitor, WholeClient, WholeClientNode, loses, me, own_behind_gone}
-use Rattle.cx_client_links.specs.cx_rules_session.specs.Forgets.{abridged_client_link}
-use Rattle.cx_client_links.specs.cx_rules_session.specs.Kinds.{of_kind}
-use Rattle.cx_client_links.specs.cx_rules_session.specs.Presenter as call
-use Rattle.cx_client_links.specs.cx_rules_session.specs.Presenter.{CallStage}
+use Rattle.cx_client_events.specs.cx_rules_session.specs.ClientRule.{ToDaemon, ToMonitor, WholeClient, WholeClientNode, loses, me, own_behind_gone}
+use Rattle.cx_client_events.specs.cx_rules_session.specs.Forgets.{abridged_client_link}
+use Rattle.cx_client_events.specs.cx_rules_session.specs.Kinds.{of_kind}
+use Rattle.cx_client_events.specs.cx_rules_session.specs.Presenter as call
+use Rattle.cx_client_events.specs.cx_rules_session.specs.Presenter.{CallStage}
 use Rattle.cx_steps.specs.Nothing.{nothing}
 use Rattle.cx_steps.specs.declared.effects.Effects.{Effects}
-use Rattle.cx_turns.specs.Steps.{node_of}
-use Rattle.cx_client_links.specs.Kinds.{ClientLink}
+use Rattle.cx_node.specs.steps.Steps.{node_of}
+use Rattle.cx_client_events.specs.linking.Kinds.{ClientLink}
 use Rattle.cx_client_events.specs.Machine.{AreHeld, IsStep}
 use Rattle.cx_client_events.proofs.Steps.{without_held}
 

@@ -2,14 +2,14 @@
 use Rattle.std.proofs.Common.{◌≡◌, ◌∙◌, ℕ, Bool, true, false, cond, List, [], ◌∷◌, Option, Some, None, refl, sym, ap}
 use Rattle.std.specs.Prelude.{IfSome}
 use Rattle.cx_base.specs.Names.{Name, same_name}
-use Rattle.cx_client_links.specs.cx_presenting.specs.Rows.{changed}
-use Rattle.cx_client_links.specs.cx_presenting.specs.declared.rows.Change.{Change}
-use Rattle.cx_client_links.specs.cx_presenting.specs.declared.rows.Change.TheVariants.{Counts}
-use Rattle.cx_node.specs.cx_rules.specs.Holdings.{Asker}
+use Rattle.cx_client_events.specs.cx_client_connect.specs.presenting.Rows.{changed}
+use Rattle.cx_client_events.specs.cx_client_connect.specs.declared.rows.Change.{Change}
+use Rattle.cx_client_events.specs.cx_client_connect.specs.declared.rows.Change.TheVariants.{Counts}
+use Rattle.cx_node.specs.cx_rules.specs.Holdings.{MonClient}
 use Rattle.cx_base.proofs.Names.{same_name_is, same_name_self}
-use Rattle.cx_client_links.specs.cx_rules_session.specs.ClientRule.{Dial, WholeClient, caller_to, with_caller}
-use Rattle.cx_client_links.specs.cx_rules_session.specs.Sessions.{HeldSession, session_with, with_session}
-use Rattle.cx_client_links.specs.cx_sending.specs.Table.{is_with}
+use Rattle.cx_client_events.specs.cx_rules_session.specs.ClientRule.{Dial, WholeClient, caller_to, with_caller}
+use Rattle.cx_client_events.specs.cx_rules_session.specs.Sessions.{HeldSession, session_with, with_session}
+use Rattle.cx_client_events.specs.cx_client_connect.specs.session.Table.{is_with}
 use Rattle.cx_client_events.specs.Machine.{KeptClient}
 
 module _ (daemon : Name) where
@@ -45,14 +45,14 @@ pub caller_kept : (daemon : Name) (own : WholeClient) → with_caller daemon own
 caller_kept daemon own = let holds : List HeldSession → WholeClient = λ ss. record own { sessions = ss } in ap holds (session_stays daemon own.sessions)
 
 -- another count of connections leaves the sessions as they are
-pub counted : (daemon : Name) (kept : KeptClient) (inside asker : Asker) (dials : List Dial) (sessions : List HeldSession) (room : ℕ) (change : Change) (count : ℕ)
-    → (let it : KeptClient = record { client = record { asker = inside; dials = dials; sessions = sessions }; room = room } in it) ≡ kept → change ≡ Counts count
-    → asker ≡ record inside { global_seq = count }
-    → (let it : WholeClient = record { asker = asker; dials = dials; sessions = sessions } in it) ≡ with_caller daemon kept.client (changed (caller_to daemon kept.client) change)
-counted daemon kept inside asker dials sessions room change count view ch is =
-    let own : WholeClient = record { asker = inside; dials = dials; sessions = sessions } in
+pub counted : (daemon : Name) (kept : KeptClient) (inside mon_client : MonClient) (dials : List Dial) (sessions : List HeldSession) (room : ℕ) (change : Change) (count : ℕ)
+    → (let it : KeptClient = record { client = record { mon_client = inside; dials = dials; sessions = sessions }; room = room } in it) ≡ kept → change ≡ Counts count
+    → mon_client ≡ record inside { global_seq = count }
+    → (let it : WholeClient = record { mon_client = mon_client; dials = dials; sessions = sessions } in it) ≡ with_caller daemon kept.client (changed (caller_to daemon kept.client) change)
+counted daemon kept inside mon_client dials sessions room change count view ch is =
+    let own : WholeClient = record { mon_client = inside; dials = dials; sessions = sessions } in
     let client_of : KeptClient → WholeClient = λ k. k.client in
-    let asks : Asker → WholeClient = λ a. record { asker = a; dials = dials; sessions = sessions } in
-    let holds : List HeldSession → WholeClient = λ ss. record { asker = record inside { global_seq = count }; dials = dials; sessions = ss } in
+    let asks : MonClient → WholeClient = λ a. record { mon_client = a; dials = dials; sessions = sessions } in
+    let holds : List HeldSession → WholeClient = λ ss. record { mon_client = record inside { global_seq = count }; dials = dials; sessions = ss } in
     let goes : WholeClient → Change → WholeClient = λ o k. with_caller daemon o (changed (caller_to daemon o) k) in
     ap asks is ∙ ap holds (sym (session_stays daemon sessions)) ∙ ap (λ k. goes own k) (sym ch) ∙ ap (λ o. goes o change) (ap client_of view)

@@ -1,3 +1,4 @@
+pub mod linking
 pub mod Asked
 pub mod Gone
 pub mod Kept

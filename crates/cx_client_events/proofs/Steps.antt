@@ -3,15 +3,15 @@ use Rattle.std.proofs.Common.{◌≡◌, ◌∙◌, ℕ, List, [], ◌∷◌, Re
 use Rattle.cx_journal.specs.declared.outcomes.Reason.TheVariants.{NoLink}
 use Rattle.cx_node.specs.cx_rules.specs.Links.{without_link}
 use Rattle.cx_node.specs.cx_rules.specs.Rows.{idles, refused_entry}
-use Rattle.cx_client_links.specs.cx_rules_session.specs.ClientRule.{WholeClient, WholeClientNode, me, undialled, unreached}
-use Rattle.cx_client_links.specs.cx_rules_session.specs.Forgets.{abridged_client_link}
-use Rattle.cx_client_links.specs.cx_rules_session.proofs.WholeClientForgets.{client-forgets-links}
+use Rattle.cx_client_events.specs.cx_rules_session.specs.ClientRule.{WholeClient, WholeClientNode, me, undialled, unreached}
+use Rattle.cx_client_events.specs.cx_rules_session.specs.Forgets.{abridged_client_link}
+use Rattle.cx_client_events.specs.cx_rules_session.proofs.WholeClientForgets.{client-forgets-links}
 use Rattle.cx_steps.specs.Nothing.{nothing}
 use Rattle.cx_steps.specs.declared.effects.Effects.{Effects}
 use Rattle.cx_steps.specs.declared.events.Peer.{Peer}
-use Rattle.cx_turns.specs.Steps.{node_of}
-use Rattle.cx_turns.proofs.Steps as steps
-use Rattle.cx_client_links.specs.Kinds.{ClientLink}
+use Rattle.cx_node.specs.steps.Steps.{node_of}
+use Rattle.cx_node.proofs.steps.Steps as steps
+use Rattle.cx_client_events.specs.linking.Kinds.{ClientLink}
 use Rattle.cx_client_events.specs.Machine.{AreHeld, IsStep}
 
 pub without_held : (number : ℕ) (all links : List ClientLink) → AreHeld all → links ≡ without_link number all → AreHeld links

@@ -10,15 +10,15 @@ use Rattle.cx_node.specs.cx_rules.specs.Links.{Link}
 use Rattle.cx_node.specs.cx_rules.specs.Requests.{Requests, asks_tickets}
 use Rattle.cx_node.specs.cx_rules.specs.Rows.{Outcome, Row, arrival, goes_on, lifted, new_link}
 use Rattle.cx_node.specs.cx_rules.specs.Secured.{Secured}
-use Rattle.cx_client_links.specs.cx_rules_session.specs.ClientRule.{ClientStage, Dial, ToMonitor, WholeClient, WholeClientNode, first_stage, me, open_to_ask, undialled, with_asker}
-use Rattle.cx_client_links.specs.cx_rules_session.specs.Forgets.{abridged_client_link}
-use Rattle.cx_client_links.specs.cx_rules_session.specs.Kinds.{of_kind}
-use Rattle.cx_client_links.specs.cx_rules_session.specs.Sessions.{Called, Callee, held_gid}
+use Rattle.cx_client_events.specs.cx_rules_session.specs.ClientRule.{ClientStage, Dial, ToMonitor, WholeClient, WholeClientNode, first_stage, me, open_to_ask, undialled, with_mon_client}
+use Rattle.cx_client_events.specs.cx_rules_session.specs.Forgets.{abridged_client_link}
+use Rattle.cx_client_events.specs.cx_rules_session.specs.Kinds.{of_kind}
+use Rattle.cx_client_events.specs.cx_rules_session.specs.Sessions.{Called, Callee, held_gid}
 use Rattle.cx_steps.specs.declared.effects.Effects.{Effects}
-use Rattle.cx_turns.specs.Events.{link_in}
-use Rattle.cx_turns.specs.Steps as steps
-use Rattle.cx_turns.specs.Steps.{without_lost}
-use Rattle.cx_client_links.specs.Kinds.{ClientLink}
+use Rattle.cx_node.specs.steps.Events.{link_in}
+use Rattle.cx_node.specs.steps.Steps as steps
+use Rattle.cx_node.specs.steps.Steps.{without_lost}
+use Rattle.cx_client_events.specs.linking.Kinds.{ClientLink}
 
 abbrev pub ClientRow : Type 0
 ClientRow = Row WholeClient ClientStage
@@ -58,10 +58,10 @@ banner_sent own number reading draw dial = goes_on (arrival (me own) own (new_li
 -- tickets are asked for on a link that is open, and keeps this
 abbrev pub tickets_asked : WholeClient → ℕ → List ℕ → ℕ → Link connector.Stage → Secured → Requests → ClientRow
 tickets_asked own reading draw services link s requests =
-    lifted (with_asker own) (asks_tickets open_to_ask (arrival (me own) own.asker (of_kind ToMonitor link) reading draw) s requests services)
+    lifted (with_mon_client own) (asks_tickets open_to_ask (arrival (me own) own.mon_client (of_kind ToMonitor link) reading draw) s requests services)
 
 -- a daemon as it is called with the ticket that is held for its service, if one is, or why it can't be
 abbrev pub called_with : WholeClient → Callee → Option Held → Result Called Reason
 called_with own callee None = Err (reason.NoTicket callee.daemon.kind)
 called_with own callee (Some held) =
-    if own.asker.global_seq == 2 ^ 64 - 1 then Err reason.Spent else Ok (record { callee = callee; held = held; gid = held_gid own.asker.holdings })
+    if own.mon_client.global_seq == 2 ^ 64 - 1 then Err reason.Spent else Ok (record { callee = callee; held = held; gid = held_gid own.mon_client.holdings })

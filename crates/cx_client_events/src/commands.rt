@@ -2,21 +2,20 @@
 
 ghost use Rattle.std.specs.Prelude.{◌≡◌, ◌<◌, ◌-◌, ◌^◌, [], ◌∷◌, None, IfOk, OnErr};
 ghost use Rattle.cx_node.specs.cx_rules.specs.Rows as rows;
-ghost use Rattle.cx_client_links.specs.cx_rules_session.specs.ClientRule as rule;
-ghost use Rattle.cx_client_links.specs.cx_rules_session.specs.ClientRule.{me};
+ghost use Rattle.cx_client_events.specs.cx_rules_session.specs.ClientRule as rule;
+ghost use Rattle.cx_client_events.specs.cx_rules_session.specs.ClientRule.{me};
 ghost use Rattle.cx_steps.specs.Nothing.{nothing};
 ghost use Rattle.cx_steps.specs.declared.events.Peer.TheVariants.{Daemon};
-ghost use Rattle.cx_turns.specs.Steps.{node_of};
+ghost use Rattle.cx_node.specs.steps.Steps.{node_of};
 ghost use Rattle.cx_client_events.specs.Machine.{AreHeld, IsStep};
 
 use crate::own::Own;
+use crate::{Called, Callee, Link, calls, first_open, numbers_to_monitor, shut_all};
 use cx_base::{Duplicate, EntityName, Items, Reading};
-use cx_client_links::{Called, Callee, Link, calls, first_open, numbers_to_monitor, shut_all};
 use cx_dice::Draw;
 use cx_journal::Reason;
-use cx_node::{Links, Numbered, enters, refused_entry};
+use cx_node::{Links, Moment, Numbered, enters, refused_entry, stands};
 use cx_steps::{Effects, Peer};
-use cx_turns::{Moment, stands};
 use std::alloc::{AllocError, Global};
 
 // ---- Login, Renew
@@ -103,7 +102,7 @@ pub fn connects(
 
 // A link to the daemon is opened, and the client's connections to daemons are counted.
 fn dials(alloc: Global, own: &mut Own, called: Called) -> Result<Effects, AllocError>
-    requires { own.old.client.asker.global_seq < 2 ^ 64 - 1 }
+    requires { own.old.client.mon_client.global_seq < 2 ^ 64 - 1 }
     ensures out { IfOk result (λ out. out ≡ record nothing { opens = Daemon called.callee.daemon ∷ [] }) }
     ensures own { IfOk result (λ _. own.new.client ≡ (rule.calls (node_of own.old.client []) called).state.own) }
     ensures err { OnErr result (own.new ≡ own.old) }

@@ -5,19 +5,18 @@ ghost use Rattle.cx_journal.specs.declared.outcomes.Reason.TheVariants as reason
 ghost use Rattle.cx_node.specs.cx_rules.specs.Inputs.{Opened};
 ghost use Rattle.cx_node.specs.cx_rules.specs.Links.{link_of, without_link};
 ghost use Rattle.cx_node.specs.cx_rules.specs.Rows as rows;
-ghost use Rattle.cx_client_links.specs.cx_rules_session.specs.ClientRule as rule;
-ghost use Rattle.cx_client_links.specs.cx_rules_session.specs.ClientRule.{me};
-ghost use Rattle.cx_client_links.specs.cx_rules_session.specs.Presenter as call;
+ghost use Rattle.cx_client_events.specs.cx_rules_session.specs.ClientRule as rule;
+ghost use Rattle.cx_client_events.specs.cx_rules_session.specs.ClientRule.{me};
+ghost use Rattle.cx_client_events.specs.cx_rules_session.specs.Presenter as call;
 ghost use Rattle.cx_steps.specs.Nothing.{nothing};
-ghost use Rattle.cx_turns.specs.Steps.{node_of};
+ghost use Rattle.cx_node.specs.steps.Steps.{node_of};
 ghost use Rattle.cx_client_events.specs.Machine.{AreHeld, IsStep, banner_sent, lost};
 
 use crate::own::Own;
-use cx_client_links::{CallLink, Dial, Kind, Link};
+use crate::{CallLink, Dial, Kind, Link};
 use cx_journal::{Entry, Reason};
-use cx_node::{Links, enters, refused_entry};
+use cx_node::{Links, Moment, enters, refused_entry, unopened};
 use cx_steps::{Effects, Peer};
-use cx_turns::{Moment, unopened};
 use std::alloc::{AllocError, Global};
 
 // ---- a link opens, or can't be opened
@@ -65,7 +64,7 @@ fn greets(
     ensures held { AreHeld links.new.links }
 {
     let greeted = own.greets(alloc, at, dial);
-    cx_turns::opens(alloc, links, at.number, greeted)
+    cx_node::opens(alloc, links, at.number, greeted)
 }
 
 /// A link could not be opened, and isn't waited for any more.
@@ -103,7 +102,7 @@ pub fn comes(
     ensures room { links.new.room ≡ None }
     ensures held { AreHeld links.new.links }
 {
-    cx_turns::comes(alloc, links, number, bytes)
+    cx_node::comes(alloc, links, number, bytes)
 }
 
 // ---- a link is gone

@@ -3,37 +3,36 @@
 ghost use Rattle.std.specs.Prelude.{◌≡◌, ◌<◌, ◌-◌, ◌^◌, [], true, Some, IfOk, IfNone, OnOk, OnErr, find};
 ghost use Rattle.std.specs.Option.{option_copied};
 ghost use Rattle.cx_node.specs.Made.{as_row};
-ghost use Rattle.cx_client_links.specs.cx_presenting.specs.Rows as call_rows;
+ghost use Rattle.cx_client_events.specs.cx_client_connect.specs.presenting.Rows as call_rows;
 ghost use Rattle.cx_node.specs.cx_rules.specs.Connector.{is_open, kept_open};
 ghost use Rattle.cx_node.specs.cx_rules.specs.Requests.{Requests};
 ghost use Rattle.cx_node.specs.cx_rules.specs.Secured.{Secured};
-ghost use Rattle.cx_client_links.specs.cx_rules_session.specs.ClientRule as rule;
-ghost use Rattle.cx_client_links.specs.cx_rules_session.specs.Forgets.{abridged_client_link};
-ghost use Rattle.cx_client_links.specs.cx_rules_session.specs.Sessions.{session_with, ticket_for};
-ghost use Rattle.cx_client_links.specs.cx_sending.specs.Table.{having_pushed, in_session};
-ghost use Rattle.cx_turns.specs.Making.{row_due};
+ghost use Rattle.cx_client_events.specs.cx_rules_session.specs.ClientRule as rule;
+ghost use Rattle.cx_client_events.specs.cx_rules_session.specs.Forgets.{abridged_client_link};
+ghost use Rattle.cx_client_events.specs.cx_rules_session.specs.Sessions.{session_with, ticket_for};
+ghost use Rattle.cx_client_events.specs.cx_client_connect.specs.session.Table.{having_pushed, in_session};
+ghost use Rattle.cx_node.specs.steps.Making.{row_due};
 ghost use Rattle.cx_holdings.specs.cx_wire.specs.Operations.{IsWritable};
 ghost use Rattle.cx_client_events.specs.Machine.{banner_sent, called_with, tickets_asked};
 ghost use Rattle.cx_client_events.specs.Turns.{with_change};
 
-use cx_base::{Duplicate, EntityName, NodeName, Operation};
-use cx_client_links::{
+use crate::{
     CallChange, Called, Callee, Change, Dial, Dials, HeldSession, Link, MonitorLink, Purpose,
     Sessions, asks_tickets, call_greeting, held_gid, monitor_greeting, named, of_daemon,
     of_monitor, ticket_for,
 };
-use cx_holdings::Asker;
+use cx_base::{Duplicate, EntityName, NodeName, Operation};
+use cx_holdings::MonClient;
 use cx_journal::Reason;
-use cx_node::Row;
+use cx_node::{Moment, Row};
 use cx_steps::Peer;
-use cx_turns::Moment;
 use std::alloc::{AllocError, Global};
 use std::marker::Model;
 
 /// Itself as one that asks the monitor, the links that it waits for, and its sessions with daemons.
 #[derive(Drop)]
 pub struct Own {
-    asker: Asker,
+    mon_client: MonClient,
     dials: Dials,
     sessions: Sessions,
 }
@@ -43,30 +42,30 @@ impl Model for Own {
 
     ghost Value = { KeptClient };
 
-    ghost view = { λ o. record { client = record { asker = o.asker; dials = o.dials; sessions = o.sessions.sessions }; room = o.sessions.room } };
+    ghost view = { λ o. record { client = record { mon_client = o.mon_client; dials = o.dials; sessions = o.sessions.sessions }; room = o.sessions.room } };
 }
 
 impl Own {
     ghost use Rattle.cx_node.specs.cx_rules.specs.Holdings.{afresh};
-    ghost use Rattle.cx_client_links.specs.cx_rules_session.specs.ClientRule.{caller_to, dial_of, me, undialled, waits_for_login, with_caller};
-    ghost use Rattle.cx_client_links.specs.cx_sending.specs.Table.{without_lossy};
+    ghost use Rattle.cx_client_events.specs.cx_rules_session.specs.ClientRule.{caller_to, dial_of, me, undialled, waits_for_login, with_caller};
+    ghost use Rattle.cx_client_events.specs.cx_client_connect.specs.session.Table.{without_lossy};
 
     /// One that asks the monitor so waits for no link yet, and has no session.
-    pub fn new(alloc: Global, asker: Asker) -> Own
-        ensures { result.client ≡ record { asker = asker; dials = []; sessions = [] } }
+    pub fn new(alloc: Global, mon_client: MonClient) -> Own
+        ensures { result.client ≡ record { mon_client = mon_client; dials = []; sessions = [] } }
     {
         Own {
-            asker,
+            mon_client,
             dials: Dials::new(alloc),
             sessions: Sessions::new(alloc),
         }
     }
 
     /// Itself as one that asks the monitor.
-    pub fn asker(&self) -> &Asker
-        ensures { result.now ≡ self.now.client.asker }
+    pub fn mon_client(&self) -> &MonClient
+        ensures { result.now ≡ self.now.client.mon_client }
     {
-        &self.asker
+        &self.mon_client
     }
 
     /// Its sessions.
@@ -87,7 +86,7 @@ impl Own {
     pub fn named(&self, alloc: Global) -> Result<NodeName, AllocError>
         ensures { IfOk result (λ named. named ≡ me self.now.client) }
     {
-        named(alloc, &self.asker)
+        named(alloc, &self.mon_client)
     }
 
     // ---- links that are waited for
@@ -106,20 +105,20 @@ impl Own {
         alloc: Global,
         callee: Callee,
     ) -> Result<Result<Called, Reason>, AllocError>
-        ensures called { IfOk result (λ called. called ≡ called_with self.now.client callee (ticket_for callee.daemon.kind self.now.client.asker.holdings)) }
-        ensures counted { IfOk result (λ called. OnOk called (self.now.client.asker.global_seq < 2 ^ 64 - 1)) }
+        ensures called { IfOk result (λ called. called ≡ called_with self.now.client callee (ticket_for callee.daemon.kind self.now.client.mon_client.holdings)) }
+        ensures counted { IfOk result (λ called. OnOk called (self.now.client.mon_client.global_seq < 2 ^ 64 - 1)) }
     {
-        match ticket_for(&self.asker, callee.daemon.kind) {
+        match ticket_for(&self.mon_client, callee.daemon.kind) {
             None => Ok(Err(Reason::NoTicket(callee.daemon.kind))),
             Some(held) => {
-                if self.asker.global_seq() == u64::MAX {
+                if self.mon_client.global_seq() == u64::MAX {
                     return Ok(Err(Reason::Spent));
                 }
                 let held = held.copy(alloc)?;
                 Ok(Ok(Called {
                     callee,
                     held,
-                    gid: held_gid(&self.asker),
+                    gid: held_gid(&self.mon_client),
                 }))
             }
         }
@@ -127,13 +126,13 @@ impl Own {
 
     /// A link to a daemon is waited for from now on, and the connections to daemons are counted. Where memory is wanting, all is as before.
     pub fn call(&mut self, called: Called) -> Result<(), AllocError>
-        requires { self.old.client.asker.global_seq < 2 ^ 64 - 1 }
+        requires { self.old.client.mon_client.global_seq < 2 ^ 64 - 1 }
         ensures ok { OnOk result (self.new.client ≡ (rule.calls (record { own = self.old.client; links = [] }) called).state.own) }
         ensures err { OnErr result (self.new ≡ self.old) }
     {
         self.dials.wait_for_call(called)?;
-        let count = self.asker.global_seq();
-        self.asker.put_global_seq(count + 1);
+        let count = self.mon_client.global_seq();
+        self.mon_client.put_global_seq(count + 1);
         Ok(())
     }
 
@@ -192,7 +191,7 @@ impl Own {
         ensures { self.new.client ≡ with_change self.old.client change }
     {
         match change {
-            Change::Asked(change) => change.settle(&mut self.asker),
+            Change::Asked(change) => change.settle(&mut self.mon_client),
             Change::Called(daemon, change) => self.settle_call(&daemon, change.unboxed()),
         }
     }
@@ -203,15 +202,15 @@ impl Own {
     {
         match change {
             CallChange::Session(change) => self.sessions.change(daemon, change),
-            CallChange::Counts(count) => self.asker.put_global_seq(count),
+            CallChange::Counts(count) => self.mon_client.put_global_seq(count),
         }
     }
 
     /// Begins anew.
     pub fn begin_anew(&mut self)
-        ensures { self.new.client ≡ record { asker = afresh self.old.client.asker; dials = []; sessions = [] } }
+        ensures { self.new.client ≡ record { mon_client = afresh self.old.client.mon_client; dials = []; sessions = [] } }
     {
-        self.asker.begin_anew();
+        self.mon_client.begin_anew();
         self.dials.clear();
         self.sessions.clear();
     }
@@ -253,7 +252,7 @@ impl Own {
         ensures { (s : Secured) (requests : Requests) → kept_open link.now.stage ≡ Some (s, requests) → IfOk result (λ row. as_row self.now.client row
             ≡ row_due abridged_client_link (tickets_asked self.now.client at.now.reading at.now.draw.now.bytes services link.now s requests)) }
     {
-        let row = asks_tickets(alloc, &self.asker, at, link, services)?;
+        let row = asks_tickets(alloc, &self.mon_client, at, link, services)?;
         Ok(of_monitor(row))
     }
 }

@@ -1,15 +1,15 @@
 -- How a command ends that runs a node.
 use Rattle.std.proofs.Common.{ℕ, ◌≡◌, ◌⊎◌, List, Option, inl, inr, sym, ◌∙◌, subst}
-use Rattle.cx_command_daemon.specs.cx_command_nodes.specs.Outside.{Outside}
+use Rattle.cx_drive_commands.specs.nodes.Outside.{Outside}
 use Rattle.cx_command_line.specs.Commands.{AskedClient, AskedDaemon, Client, Daemon, Monitor}
 use Rattle.cx_command_line.specs.declared.commands.MonitorCommand.{MonitorCommand}
 use Rattle.cx_desk.specs.Handlers.{Handlers}
 use Rattle.cx_journal.specs.declared.entries.Entry.{Entry}
-use Rattle.cx_links.specs.Acts.{LinkAct}
+use Rattle.cx_outside.specs.linking.Acts.{LinkAct}
 use Rattle.cx_loading.specs.declared.ends.NodeEnd.{NodeEnd}
 use Rattle.cx_loading.specs.declared.ends.NodeEnd.TheVariants as end
-use Rattle.cx_node_help.specs.cx_line_help.specs.declared.scripts.NodeKind.{NodeKind}
-use Rattle.cx_node_help.specs.cx_line_help.specs.declared.scripts.NodeKind.TheVariants as kind
+use Rattle.cx_help.specs.declared.scripts.NodeKind.{NodeKind}
+use Rattle.cx_help.specs.declared.scripts.NodeKind.TheVariants as kind
 use Rattle.cx_top.specs.declared.status.Status.TheVariants.{OutOfMemory, Usage, WriteFault}
 use Rattle.cx_commands.specs.Lent.{Lent, Streams}
 use Rattle.cx_commands.specs.NodeRuns.{ClientRun, DaemonRun, MonitorRun}

@@ -9,13 +9,13 @@ use Rattle.cx_command_line.specs.Commands.{Asked, AskedClient, AskedDaemon, Repl
 use Rattle.cx_command_line.specs.Words.{Word, address, both, bounded, within}
 use Rattle.cx_command_line.specs.declared.commands.DrillCommand.{DrillCommand}
 use Rattle.cx_command_line.specs.declared.commands.MonitorCommand.{MonitorCommand}
-use Rattle.cx_command_daemon.specs.cx_command_nodes.specs.Monitors.{IsMonitorCommand}
+use Rattle.cx_drive_commands.specs.nodes.Monitors.{IsMonitorCommand}
 use Rattle.cx_top.specs.Commands.{command_word}
 use Rattle.cx_top.specs.Statuses.{IsServed}
 use Rattle.cx_top.specs.declared.commands.Subcommand.{Subcommand}
 use Rattle.cx_top.specs.declared.program_end.ProgramEnd.{ProgramEnd}
 use Rattle.cx_top.specs.declared.status.Status.TheVariants.{Broken, Done, OutOfMemory, Usage, WriteFault}
-use Rattle.cx_node_help.specs.cx_line_help.specs.declared.scripts.NodeKind.{NodeKind}
+use Rattle.cx_help.specs.declared.scripts.NodeKind.{NodeKind}
 use Rattle.cx_keyring.specs.cx_words.specs.Words.{number_of}
 use Rattle.cx_command_line.specs.declared.reading.Misread.{Misread}
 use Rattle.cx_command_line.specs.declared.reading.Misread.TheVariants as misread

@@ -1,8 +1,8 @@
 -- What is said of words that aren't read, and what the status `Usage` means.
 use Rattle.std.proofs.Common.{ℕ, ◌≡◌, true, false, List, Option, Some, None, is_some, Result, Ok, Err, IfOk, string_bytes, refl, sym, ap, ◌∙◌}
-use Rattle.cx_command_help.specs.Sentences.{why_text}
-use Rattle.cx_command_help.specs.Wrong.{wrong_of}
-use Rattle.cx_command_help.specs.declared.wrong.Wrong.{Wrong}
+use Rattle.cx_help.specs.command.Sentences.{why_text}
+use Rattle.cx_help.specs.command.Wrong.{wrong_of}
+use Rattle.cx_help.specs.declared.command_wrong.WrongUsage.{WrongUsage}
 use Rattle.cx_command_line.specs.Commands.{Asked, IsMisread, spelled}
 use Rattle.cx_command_line.specs.Words.{Word}
 use Rattle.cx_command_line.specs.declared.reading.Misread.{Misread}
@@ -16,7 +16,7 @@ use Rattle.cx_commands.specs.declared.ends.CommandStatus.TheVariants.{Text}
 
 -- ---- the word that is wrong, and what is said of it
 
-pub wrong_said : {E S : Type 0} (bytes : S → List ℕ) (words : List Word) (wrong : Wrong) (word : Word) (told : Result S E) → wrong_of words ≡ Some wrong → word ≡ word_of words wrong.number
+pub wrong_said : {E S : Type 0} (bytes : S → List ℕ) (words : List Word) (wrong : WrongUsage) (word : Word) (told : Result S E) → wrong_of words ≡ Some wrong → word ≡ word_of words wrong.number
     → IfOk told (λ t. bytes t ≡ line_told (why_text wrong.number wrong.why word)) → IfOk told (λ t. bytes t ≡ wrong_told words)
 wrong_said bytes words wrong word (Err e) is same says = tt
 wrong_said bytes words wrong word (Ok told) is same says =

@@ -3,7 +3,7 @@ use Rattle.std.specs.Prelude.{ℕ, Bool, true, false, List, [], if◌then◌else
 use Rattle.cx_loading.specs.Ends as node
 use Rattle.cx_loading.specs.declared.ends.NodeEnd.{NodeEnd}
 use Rattle.cx_loading.specs.declared.ends.NodeEnd.TheVariants as end
-use Rattle.cx_node_help.specs.Sentences.{end_text}
+use Rattle.cx_help.specs.node.Sentences.{end_text}
 use Rattle.cx_top.specs.Statuses as text
 use Rattle.cx_top.specs.Told.{line_told, or_told, status_told}
 use Rattle.cx_commands.specs.declared.ends.CommandEnd.{CommandEnd}

@@ -1,9 +1,9 @@
 -- How the program ends whose words aren't read, and what its status `Usage` means.
 use Rattle.std.specs.Prelude.{ℕ, ◌≡◌, ◌-◌, ◌⊎◌, List, [], get_or, Option, Some, None, string_bytes}
 use Rattle.cx_base.specs.Streams.{Rose}
-use Rattle.cx_command_help.specs.Sentences.{why_text}
-use Rattle.cx_command_help.specs.Wrong.{wrong_of}
-use Rattle.cx_command_help.specs.declared.wrong.Wrong.{Wrong}
+use Rattle.cx_help.specs.command.Sentences.{why_text}
+use Rattle.cx_help.specs.command.Wrong.{wrong_of}
+use Rattle.cx_help.specs.declared.command_wrong.WrongUsage.{WrongUsage}
 use Rattle.cx_command_line.specs.Commands.{spelled}
 use Rattle.cx_command_line.specs.Words.{Word}
 use Rattle.cx_command_line.specs.declared.reading.Misread.{Misread}
@@ -23,7 +23,7 @@ misread_status misread.OutOfMemory = OutOfMemory
 abbrev pub word_of : List Word → ℕ → Word
 word_of words number = get_or words (number - 1) []
 
-abbrev pub said_of : List Word → Option Wrong → List ℕ
+abbrev pub said_of : List Word → Option WrongUsage → List ℕ
 said_of words None = []
 said_of words (Some wrong) = line_told (why_text wrong.number wrong.why (word_of words wrong.number))
 

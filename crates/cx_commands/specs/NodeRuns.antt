@@ -1,19 +1,19 @@
--- How a node ran: the clauses of `run_monitor` and `run_client` of cx_command_nodes and of `run_daemon` of cx_command_daemon, each as one.
+-- How a node ran: the clauses of `run_monitor`, `run_client` and `run_daemon` of cx_drive_commands, each as one.
 use Rattle.std.specs.Prelude.{ℕ, ◌≡◌, List, [], Some}
 use Rattle.cx_base.specs.Streams.{Rose}
-use Rattle.cx_command_daemon.specs.Daemons.{DaemonEnds}
-use Rattle.cx_command_daemon.specs.cx_command_nodes.specs.Clients.{ClientEnds, client_peers}
-use Rattle.cx_command_daemon.specs.cx_command_nodes.specs.Monitors.{HasNoState, IsMonitorReason, IsMonitorServed, MonitorEnds}
-use Rattle.cx_command_daemon.specs.cx_command_nodes.specs.Named.{IsNamedReason, IsNamedServed}
-use Rattle.cx_command_daemon.specs.cx_command_nodes.specs.Outside.{Outside}
-use Rattle.cx_command_daemon.specs.cx_command_nodes.specs.Runs.{HasCause, IsFaultless, IsRefusedFor, IsServed, IsStateless}
-use Rattle.cx_command_daemon.specs.cx_command_nodes.specs.Stops.{IsStopped}
+use Rattle.cx_drive_commands.specs.daemon.Daemons.{DaemonEnds}
+use Rattle.cx_drive_commands.specs.nodes.Clients.{ClientEnds, client_peers}
+use Rattle.cx_drive_commands.specs.nodes.Monitors.{HasNoState, IsMonitorReason, IsMonitorServed, MonitorEnds}
+use Rattle.cx_drive_commands.specs.nodes.Named.{IsNamedReason, IsNamedServed}
+use Rattle.cx_drive_commands.specs.nodes.Outside.{Outside}
+use Rattle.cx_drive_commands.specs.nodes.Runs.{HasCause, IsFaultless, IsRefusedFor, IsServed, IsStateless}
+use Rattle.cx_drive_commands.specs.nodes.Stops.{IsStopped}
 use Rattle.cx_command_line.specs.Commands.{AskedClient, AskedDaemon}
 use Rattle.cx_command_line.specs.declared.commands.MonitorCommand.{MonitorCommand}
 use Rattle.cx_desk.specs.Handlers.{Handlers}
 use Rattle.cx_journal.specs.declared.entries.Entry.{Entry}
 use Rattle.cx_keep.specs.Slots.{Kept}
-use Rattle.cx_links.specs.Acts.{LinkAct}
+use Rattle.cx_outside.specs.linking.Acts.{LinkAct}
 use Rattle.cx_loading.specs.declared.ends.NodeEnd.{NodeEnd}
 use Rattle.cx_loading.specs.declared.ends.NodeEnd.TheVariants as end
 use Rattle.cx_loading.specs.declared.unloaded.Unloaded.{Unloaded}

@@ -5,8 +5,8 @@ use Rattle.cx_journal.specs.JournalText.{journal_text}
 use Rattle.cx_journal.specs.declared.entries.Entry.{Entry}
 use Rattle.cx_loading.specs.declared.ends.NodeEnd.{NodeEnd}
 use Rattle.cx_loading.specs.declared.ends.NodeEnd.TheVariants as end
-use Rattle.cx_node_help.specs.Told.{script_told}
-use Rattle.cx_node_help.specs.cx_line_help.specs.declared.scripts.NodeKind.{NodeKind}
+use Rattle.cx_help.specs.node.Told.{script_told}
+use Rattle.cx_help.specs.declared.scripts.NodeKind.{NodeKind}
 use Rattle.cx_top.specs.Inputs.{IsPastLimit}
 use Rattle.cx_top.specs.Replays.{GaveAll}
 use Rattle.cx_top.specs.declared.status.Status.TheVariants.{ReadFault, TooLong, OutOfMemory, WriteFault}

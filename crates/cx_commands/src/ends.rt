@@ -3,8 +3,8 @@
 ghost use Rattle.std.specs.Prelude.{◌≡◌, [], string_bytes};
 ghost use Rattle.cx_commands.specs.Ends.{is_node_done, number_of};
 
+use cx_help::Ending;
 use cx_loading::NodeEnd;
-use cx_node_help::Ending;
 use cx_top::{ProgramEnd, Status, StatusLine};
 use std::alloc::Global;
 use std::fmt;

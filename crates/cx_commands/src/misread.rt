@@ -1,15 +1,15 @@
 //! Words that are no command's.
 
 ghost use Rattle.std.specs.Prelude.{◌≡◌, map, IfOk, string_bytes};
-ghost use Rattle.cx_command_help.specs.Sentences.{why_text};
+ghost use Rattle.cx_help.specs.command.Sentences.{why_text};
 ghost use Rattle.cx_top.specs.Told.{line_told};
 ghost use Rattle.cx_top.specs.declared.status.Status.TheVariants as text;
 ghost use Rattle.cx_commands.specs.Misread.{IsMisreadTold, IsWrongTold, misread_status, word_of, wrong_told};
 ghost use Rattle.cx_commands.specs.declared.ends.CommandStatus.TheVariants.{Text};
 
 use crate::ends::{CommandEnd, CommandStatus};
-use cx_command_help::{WrongWords, wrong_of};
 use cx_command_line::Misread;
+use cx_help::{WrongWords, wrong_of};
 use cx_top::Status;
 use std::alloc::{AllocError, Global};
 

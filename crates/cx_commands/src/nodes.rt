@@ -1,28 +1,27 @@
 //! The commands that run a node: the script is read before it, and what it entered is written behind it.
 
 ghost use Rattle.std.specs.Prelude.{◌≡◌, ◌≤◌, [], string_bytes};
-ghost use Rattle.cx_command_daemon.specs.cx_command_nodes.specs.Monitors.{IsMonitorCommand};
-ghost use Rattle.cx_command_daemon.specs.cx_command_nodes.specs.Outside.{outside};
+ghost use Rattle.cx_drive_commands.specs.nodes.Monitors.{IsMonitorCommand};
+ghost use Rattle.cx_drive_commands.specs.nodes.Outside.{outside};
 ghost use Rattle.cx_command_line.specs.Commands.{asked_client, asked_daemon};
 ghost use Rattle.cx_desk.specs.Held.{handlers_of};
 ghost use Rattle.cx_commands.specs.Lent.{lent, streams};
 ghost use Rattle.cx_commands.specs.NodeRuns.{ClientRun, DaemonRun, MonitorRun};
 ghost use Rattle.cx_commands.specs.declared.ends.CommandStatus.{CommandStatus};
 ghost use Rattle.cx_commands.specs.Nodes.{IsAnswered, IsNodeTold, NodeAnswers, unwritten};
-ghost use Rattle.cx_node_help.specs.cx_line_help.specs.declared.scripts.NodeKind.TheVariants as kind;
+ghost use Rattle.cx_help.specs.declared.scripts.NodeKind.TheVariants as kind;
 
 use crate::ends::{CommandEnd, CommandStatus};
 use cx_base::{Blob, Sink, Source};
-use cx_clock::Clock;
-use cx_command_daemon::{NodeReport, run_client, run_daemon, run_monitor};
 use cx_command_line::{ClientCommand, DaemonCommand, MonitorCommand};
 use cx_desk::Desk;
 use cx_dice::Dice;
+use cx_drive_commands::{NodeReport, run_client, run_daemon, run_monitor};
+use cx_help::{NodeKind, script_told};
 use cx_journal::put_text;
 use cx_keep::Keeper;
-use cx_links::Links;
 use cx_loading::NodeEnd;
-use cx_node_help::{NodeKind, script_told};
+use cx_outside::{Clock, Links};
 use cx_top::{Status, read_all};
 use std::alloc::Global;
 

@@ -5,7 +5,7 @@ ghost use Rattle.cx_command_line.specs.Commands as asked;
 ghost use Rattle.cx_command_line.specs.Commands.{AskedClient, AskedDaemon, spelled};
 ghost use Rattle.cx_command_line.specs.declared.commands.DrillCommand.{DrillCommand};
 ghost use Rattle.cx_command_line.specs.declared.commands.MonitorCommand.{MonitorCommand};
-ghost use Rattle.cx_command_daemon.specs.cx_command_nodes.specs.Outside.{outside};
+ghost use Rattle.cx_drive_commands.specs.nodes.Outside.{outside};
 ghost use Rattle.cx_desk.specs.Held.{handlers_of};
 ghost use Rattle.cx_top.specs.Commands.{command_word};
 ghost use Rattle.cx_top.specs.declared.commands.Subcommand.{Subcommand};
@@ -16,7 +16,7 @@ ghost use Rattle.cx_commands.specs.Keys.{KeyAnswers, rolled_from};
 ghost use Rattle.cx_commands.specs.NodeRuns.{ClientRun, DaemonRun, MonitorRun};
 ghost use Rattle.cx_commands.specs.Nodes.{NodeAnswers};
 ghost use Rattle.cx_commands.specs.Texts.{TextAnswers};
-ghost use Rattle.cx_node_help.specs.cx_line_help.specs.declared.scripts.NodeKind.TheVariants as kind;
+ghost use Rattle.cx_help.specs.declared.scripts.NodeKind.TheVariants as kind;
 
 use crate::drills::drill;
 use crate::ends::CommandEnd;
@@ -25,12 +25,11 @@ use crate::misread::misread;
 use crate::nodes::{client, daemon, monitor};
 use crate::texts::text;
 use cx_base::{Sink, Source};
-use cx_clock::Clock;
 use cx_command_line::{Invocation, read};
 use cx_desk::Desk;
 use cx_dice::Dice;
 use cx_keep::Keeper;
-use cx_links::Links;
+use cx_outside::{Clock, Links};
 use std::alloc::Global;
 
 /// Does what these words of the command line ask for. `replay`, `keyring` and `audit` read a text from `input` and write another to `out`; `drill` reads nothing,

@@ -4,7 +4,7 @@ use Rattle.std.specs.Prelude.{not, nat_lt, filter, IfSome}
 use Rattle.std.proofs.lemmas.Bool.Decides.{nat_tests}
 use Rattle.cx_node.specs.Tables.{behind}
 use Rattle.cx_node.specs.cx_rules.specs.Links.{Link, put_link, without_link}
-use Rattle.cx_turns.specs.Stages.{AreRising}
+use Rattle.cx_node.specs.steps.Stages.{AreRising}
 
 module _ {Stage : Type 0} where
   none_below : (n low : ℕ) (links : List (Link Stage)) → n ≤ low → AreRising low links → filter (λ (l : Link Stage). nat_lt l.number n) links ≡ []

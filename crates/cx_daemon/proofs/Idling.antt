@@ -4,7 +4,7 @@ use Rattle.cx_node.specs.cx_rules.specs.Rows.{idles}
 use Rattle.cx_daemon_events.specs.cx_rules_session.specs.DaemonRule.{Daemon}
 use Rattle.cx_steps.specs.Nothing.{nothing}
 use Rattle.cx_steps.specs.declared.effects.Effects.{Effects}
-use Rattle.cx_turns.specs.Steps.{node_of}
+use Rattle.cx_node.specs.steps.Steps.{node_of}
 use Rattle.cx_daemon_events.specs.Kinds.{DaemonLink}
 use Rattle.cx_daemon_events.specs.Machine.{AreHeld, IsStep}
 use Rattle.cx_daemon_events.proofs.Steps as events

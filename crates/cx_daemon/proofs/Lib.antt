@@ -1,5 +1,5 @@
 pub mod Behind
-pub mod Guests
+pub mod IncomingLinks
 pub mod Idling
 pub mod Kept
 pub mod Regarding

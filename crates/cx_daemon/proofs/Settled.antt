@@ -2,7 +2,7 @@
 use Rattle.std.proofs.Common.{◌≡◌, ◌∙◌, ℕ, List, Some, None, Result, Ok, Err, IfOk, refl, ap}
 use Rattle.cx_daemon_events.specs.cx_authorize.specs.Daemon.{Authority}
 use Rattle.cx_base.specs.declared.nodes.NodeName.{NodeName}
-use Rattle.cx_daemon_events.specs.cx_connector.specs.declared.rows.Change.{Change}
+use Rattle.cx_daemon_events.specs.cx_monclient.specs.declared.rows.Change.{Change}
 use Rattle.cx_desk.specs.Handlers.{Handlers}
 use Rattle.cx_node.specs.cx_rules.specs.Connector as connector
 use Rattle.cx_node.specs.cx_rules.specs.Links.{Link, link_of, without_link}
@@ -12,11 +12,11 @@ use Rattle.cx_daemon_events.specs.cx_rules_session.specs.Kinds.{of_kind}
 use Rattle.cx_daemon_events.specs.cx_rules_session.proofs.DaemonForgets.{daemon-forgets-links}
 use Rattle.cx_session.specs.Book.{Book}
 use Rattle.cx_steps.specs.declared.effects.Effects.{Effects}
-use Rattle.cx_turns.specs.Turns.{HasNumber, IsSettled, IsTurned}
-use Rattle.cx_turns.specs.declared.came.Came.{Came}
-use Rattle.cx_turns.specs.declared.came.Came.TheVariants as came
-use Rattle.cx_turns.specs.declared.moments.Moment.{Moment}
-use Rattle.cx_turns.proofs.Turning.{settled}
+use Rattle.cx_node.specs.steps.Turns.{HasNumber, IsSettled, IsTurned}
+use Rattle.cx_node.specs.declared.came.Came.{Came}
+use Rattle.cx_node.specs.declared.came.Came.TheVariants as came
+use Rattle.cx_node.specs.declared.moments.Moment.{Moment}
+use Rattle.cx_node.proofs.steps.Turning.{settled}
 use Rattle.cx_daemon_events.specs.Kinds.{DaemonLink}
 use Rattle.cx_daemon_events.specs.Machine.{AreHeld}
 use Rattle.cx_daemon_events.specs.Turns.{IsOwnTurn, own_due, with_change}

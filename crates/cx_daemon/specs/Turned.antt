@@ -5,8 +5,8 @@ use Rattle.cx_desk.specs.Handlers.{Handlers}
 use Rattle.cx_daemon_events.specs.cx_rules_session.specs.DaemonRule.{Daemon, turn}
 use Rattle.cx_session.specs.Book.{Book}
 use Rattle.cx_steps.specs.declared.effects.Effects.{Effects}
-use Rattle.cx_turns.specs.Steps.{node_of}
-use Rattle.cx_turns.specs.declared.moments.Moment.{Moment}
+use Rattle.cx_node.specs.steps.Steps.{node_of}
+use Rattle.cx_node.specs.declared.moments.Moment.{Moment}
 use Rattle.cx_daemon_events.specs.Kinds.{DaemonLink}
 use Rattle.cx_daemon_events.specs.Machine.{AreHeld, IsBookStep}
 

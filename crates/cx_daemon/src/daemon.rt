@@ -5,8 +5,8 @@ ghost use Rattle.cx_desk.specs.Held.{handlers_of};
 ghost use Rattle.cx_node.specs.cx_rules.specs.Inputs.{input_of};
 ghost use Rattle.cx_daemon_events.specs.cx_rules_session.specs.DaemonRule.{DaemonState, daemon_step, is_idle};
 ghost use Rattle.cx_daemon_events.specs.cx_rules_session.specs.Forgets.{DaemonStandsFor, abridged_state};
-ghost use Rattle.cx_turns.specs.Events.{losing};
-ghost use Rattle.cx_daemon_events.specs.Machine.{lost_state, opening_asker, opening_state};
+ghost use Rattle.cx_node.specs.steps.Events.{losing};
+ghost use Rattle.cx_daemon_events.specs.Machine.{lost_state, opening_mon_client, opening_state};
 ghost use Rattle.cx_daemon_events.specs.Regards.{regard_of};
 
 use crate::steps::steps;
@@ -15,9 +15,8 @@ use cx_daemon_events::{Book, Link, OfferedModes, Own, Regard, daemon_forgetting_
 use cx_desk::Desk;
 use cx_dice::Draw;
 use cx_enc::Key;
-use cx_node::Links;
+use cx_node::{Links, link_in, wanting};
 use cx_steps::{Effects, Event};
-use cx_turns::{link_in, wanting};
 use std::alloc::{AllocError, Global};
 use std::marker::Model;
 
@@ -33,7 +32,7 @@ pub struct Daemon {
 impl Model for Daemon {
     ghost use Rattle.std.specs.Prelude.{◌≡◌, None};
     ghost use Rattle.cx_daemon_events.specs.cx_rules_session.specs.DaemonRule.{DaemonState};
-    ghost use Rattle.cx_turns.specs.Steps.{node_of};
+    ghost use Rattle.cx_node.specs.steps.Steps.{node_of};
     ghost use Rattle.cx_daemon_events.specs.Machine.{AreHeld};
 
     ghost Value = { DaemonState };
@@ -46,8 +45,8 @@ impl Model for Daemon {
 impl Daemon {
     /// A daemon as it begins: its name and its key, the modes that it offers, and its address. It holds no generations and no session.
     pub fn new(alloc: Global, name: EntityName, key: Key, modes: OfferedModes, me: Addr) -> Daemon
-        ensures value { result ≡ opening_state (opening_asker name key modes me) }
-        ensures stands { DaemonStandsFor result (opening_state (opening_asker name key modes me)) }
+        ensures value { result ≡ opening_state (opening_mon_client name key modes me) }
+        ensures stands { DaemonStandsFor result (opening_state (opening_mon_client name key modes me)) }
     {
         daemon_forgetting_laws();
         Daemon {
@@ -130,7 +129,7 @@ impl Daemon {
         !is_busy(&self.own, &self.links)
     }
 
-    /// How it regards a link, where that lives: a guest is a stranger until the daemon found its signature right, and on its own link to the monitor
+    /// How it regards a link, where that lives: a client is a stranger until the daemon found its signature right, and on its own link to the monitor
     /// the daemon awaits an answer until that is open, and while a request waits there.
     pub fn regard(&self, link: u32) -> Option<Regard>
         ensures value { result ≡ regard_of self.now.node link }

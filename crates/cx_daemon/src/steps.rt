@@ -5,7 +5,7 @@ ghost use Rattle.cx_desk.specs.Held.{handlers_of};
 ghost use Rattle.cx_node.specs.cx_rules.specs.Inputs.{input_of};
 ghost use Rattle.cx_daemon_events.specs.cx_rules_session.specs.DaemonRule as rule;
 ghost use Rattle.cx_session.specs.Book.{empty_book};
-ghost use Rattle.cx_turns.specs.Steps.{node_of};
+ghost use Rattle.cx_node.specs.steps.Steps.{node_of};
 ghost use Rattle.cx_daemon_events.specs.Machine.{AreHeld, IsBookStep, IsStateStep, IsStep, lost, state_of};
 
 use crate::turns::turns;
@@ -15,9 +15,8 @@ use cx_daemon_events::{
 };
 use cx_desk::Desk;
 use cx_dice::Draw;
-use cx_node::Links;
+use cx_node::{Links, Moment};
 use cx_steps::{Command, Effects, Event};
-use cx_turns::Moment;
 use std::alloc::{AllocError, Global};
 
 // What the daemon does at an event.

@@ -8,22 +8,21 @@ ghost use Rattle.cx_daemon_events.specs.cx_rules_session.specs.DaemonRule as rul
 ghost use Rattle.cx_daemon_events.specs.cx_rules_session.specs.DaemonRule.{AsAcceptor};
 ghost use Rattle.cx_daemon_events.specs.cx_rules_session.specs.Kinds.{of_kind};
 ghost use Rattle.cx_session.specs.Answers.{IsReserved};
-ghost use Rattle.cx_turns.specs.Steps.{node_of};
+ghost use Rattle.cx_node.specs.steps.Steps.{node_of};
 ghost use Rattle.cx_daemon_events.specs.Kinds.{DaemonLink};
 ghost use Rattle.cx_daemon_events.specs.Machine.{AreHeld, IsBookStep};
-ghost use Rattle.cx_hosted.specs.Hosting.{behind_call};
+ghost use Rattle.cx_daemon_session.specs.turn.Hosting.{behind_call};
 ghost use Rattle.cx_daemon.specs.Turned.{IsLinkTurned};
 
 use crate::moving::shuts_older;
 use cx_daemon_events::{
-    Book, GuestLink, Kind, Link, Own, SessionOwner, came_of_guest, own_turns, settles,
+    Book, IncomingLink, Kind, Link, Own, SessionOwner, came_of_incoming, own_turns, settles,
 };
+use cx_daemon_session::{HostedTurn, hosts};
 use cx_desk::Desk;
-use cx_hosted::{HostedTurn, hosts};
-use cx_node::Links;
+use cx_node::{Links, Moment};
 use cx_session::BookCall;
 use cx_steps::Effects;
-use cx_turns::Moment;
 use std::alloc::{AllocError, Global};
 
 // One banner or frame of what came on a link is handled, if it lives.
@@ -79,22 +78,22 @@ fn by_kind(
     ensures room { OnOk result (links.new.room ≡ None) }
 {
     match link.kind {
-        Kind::Guest(link) => guest_turns(alloc, own, book, links, desk, at, link),
+        Kind::Incoming(link) => incoming_turns(alloc, own, book, links, desk, at, link),
         Kind::Own(link) => own_turns(alloc, own, links, at, link),
     }
 }
 
-// ---- a link of a guest
+// ---- an incoming link
 
-// What a turn of a guest's link came to is settled; a session that moved to it has its older links shut; and the book is changed last.
-fn guest_turns(
+// What a turn of an incoming link came to is settled; a session that moved to it has its older links shut; and the book is changed last.
+fn incoming_turns(
     alloc: Global,
     own: &mut Own,
     book: &mut Book,
     links: &mut Links<Link>,
     desk: &Desk,
     at: &Moment<'_>,
-    link: GuestLink,
+    link: IncomingLink,
 ) -> Result<Effects, AllocError>
     requires number { link.number ≡ at.now.number }
     requires room { links.old.room ≡ Some at.now.number }
@@ -107,8 +106,8 @@ fn guest_turns(
         → OnErr result (without (λ link. link.number) at.now.number links.new.links ≡ without (λ link. link.number) at.now.number all) }
     ensures room { OnOk result (links.new.room ≡ None) }
 {
-    let HostedTurn { came, moved, call } = hosts(alloc, own.asker(), book, desk, at, link)?;
-    let out = settles(alloc, own, links, at.number, came_of_guest(came))?;
+    let HostedTurn { came, moved, call } = hosts(alloc, own.mon_client(), book, desk, at, link)?;
+    let out = settles(alloc, own, links, at.number, came_of_incoming(came))?;
     let out = shuts_older(alloc, links, at.number, moved, out)?;
     applies(book, call);
     Ok(out)

@@ -13,10 +13,10 @@ use Rattle.cx_verifying.specs.cx_rules_session.specs.DaemonRule.{Daemon, asking_
 use Rattle.cx_verifying.specs.cx_rules_session.specs.Forgets.{abridged_daemon_link}
 use Rattle.cx_verifying.specs.cx_rules_session.proofs.DaemonForgets.{daemon-forgets-links}
 use Rattle.cx_steps.specs.declared.effects.Effects.{Effects}
-use Rattle.cx_turns.specs.Making.{row_due}
-use Rattle.cx_turns.specs.Steps.{node_of}
-use Rattle.cx_turns.specs.Turns.{IsCarried}
-use Rattle.cx_turns.proofs.Steps as steps
+use Rattle.cx_node.specs.steps.Making.{row_due}
+use Rattle.cx_node.specs.steps.Steps.{node_of}
+use Rattle.cx_node.specs.steps.Turns.{IsCarried}
+use Rattle.cx_node.proofs.steps.Steps as steps
 use Rattle.cx_daemon_events.specs.Kinds.{DaemonLink}
 use Rattle.cx_daemon_events.specs.Machine.{AreHeld, IsFirstOpen, IsStep, generations_asked}
 use Rattle.cx_daemon_events.proofs.Scanning.{open_keeps}

@@ -10,16 +10,16 @@ use Rattle.cx_node.specs.cx_rules.specs.Rows.{Outcome, forgotten, idles, refused
 use Rattle.cx_verifying.specs.cx_rules_session.specs.Asks.{Asking, Finished}
 use Rattle.cx_verifying.specs.cx_rules_session.specs.DaemonRule.{AsAcceptor, AsConnector, Daemon, DaemonNode, DaemonStage, drops, gone, gone_by_kind, lossy_gone, me, on_dropped}
 use Rattle.cx_verifying.specs.cx_rules_session.specs.Forgets.{abridged_daemon_link}
-use Rattle.cx_verifying.specs.cx_rules_session.specs.Guests.{GuestStage}
+use Rattle.cx_verifying.specs.cx_rules_session.specs.IncomingLinks.{IncomingStage}
 use Rattle.cx_verifying.specs.cx_rules_session.specs.Kinds.{of_kind}
 use Rattle.cx_session.specs.Book.{Book, ended, with_number}
 use Rattle.cx_session.specs.declared.call.BookCall.TheVariants.{End}
 use Rattle.cx_session.specs.declared.call.BookReply.TheVariants.{Ended}
 use Rattle.cx_steps.specs.Nothing.{nothing}
 use Rattle.cx_steps.specs.declared.effects.Effects.{Effects}
-use Rattle.cx_turns.specs.Steps.{node_of}
+use Rattle.cx_node.specs.steps.Steps.{node_of}
 use Rattle.cx_verifying.specs.Stages.{lossy_session}
-use Rattle.cx_daemon_events.specs.Ending.{IsGuestGone, told_dropped, told_ended}
+use Rattle.cx_daemon_events.specs.Ending.{IsIncomingGone, told_dropped, told_ended}
 use Rattle.cx_daemon_events.specs.Kinds.{DaemonLink}
 use Rattle.cx_daemon_events.specs.Machine.{AreHeld, IsBookStep, IsStep}
 use Rattle.cx_daemon_events.specs.Shutting.{is_shut_by}
@@ -101,18 +101,18 @@ module _ (own : Daemon) (number : ℕ) (all links : List DaemonLink) (old new : 
       IsBookStep (node_of own links) old new
       (if lossy then Asking (End session) (lossy_gone (node_of own all) number session) else Finished (idles (forgotten (node_of own all) number))) given
 
-  gone_from : (session : ℕ) (lossy : Bool) → IsGuestGone own (if lossy then Some session else None) old new given → OpenTo session lossy
+  gone_from : (session : ℕ) (lossy : Bool) → IsIncomingGone own (if lossy then Some session else None) old new given → OpenTo session lossy
   gone_from session true c = ends_by session (is_some (with_number session old.live)) c.0 c.1
   gone_from session false c = (forgets nothing c.0, c.1)
 
-  guest_by : (stage : GuestStage) → IsGuestGone own (lossy_session stage) old new given → IsGone (AsAcceptor stage)
-  guest_by acceptor.AwaitsBanner c = (forgets nothing c.0, c.1)
-  guest_by acceptor.AwaitsHello c = (forgets nothing c.0, c.1)
-  guest_by acceptor.AwaitsRequest c = (forgets nothing c.0, c.1)
-  guest_by (acceptor.AwaitsProof awaited) c = (forgets nothing c.0, c.1)
-  guest_by (acceptor.AwaitsSignature s owner) c = (forgets nothing c.0, c.1)
-  guest_by (acceptor.AwaitsIdent s owner) c = (forgets nothing c.0, c.1)
-  guest_by (acceptor.Open s served) c = gone_from served.number served.lossy c
+  incoming_by : (stage : IncomingStage) → IsIncomingGone own (lossy_session stage) old new given → IsGone (AsAcceptor stage)
+  incoming_by acceptor.AwaitsBanner c = (forgets nothing c.0, c.1)
+  incoming_by acceptor.AwaitsHello c = (forgets nothing c.0, c.1)
+  incoming_by acceptor.AwaitsRequest c = (forgets nothing c.0, c.1)
+  incoming_by (acceptor.AwaitsProof awaited) c = (forgets nothing c.0, c.1)
+  incoming_by (acceptor.AwaitsSignature s owner) c = (forgets nothing c.0, c.1)
+  incoming_by (acceptor.AwaitsIdent s owner) c = (forgets nothing c.0, c.1)
+  incoming_by (acceptor.Open s served) c = gone_from served.number served.lossy c
 
   own_by : (stage : connector.Stage) (was_open : Bool) → was_open ≡ connector.is_open stage
       → given ≡ record nothing { entries = if was_open then [] else refused_entry (me own) number Lost ∷ [] } → new ≡ old → IsGone (AsConnector stage)
@@ -125,11 +125,11 @@ module _ {E : Type 0} (own : Daemon) (number : ℕ) (all links : List DaemonLink
   abbrev IsGoneBy : Result Effects E → Type 0
   IsGoneBy r = IfOk r (λ given. IsBookStep (node_of own links) old new (gone (node_of own all) o) given)
 
-  pub gone_guest : (link : Link GuestStage) (r : Result Effects E) → o ≡ Some (of_kind AsAcceptor link) → link.number ≡ number
-      → IfOk r (λ given. IsGuestGone own (lossy_session link.stage) old new given) → IsGoneBy r
-  gone_guest link (Err e) is n c = tt
-  gone_guest link (Ok given) is n c =
-      rw (is, n) (guest_by own number all links old new given h l link.stage c)
+  pub gone_incoming : (link : Link IncomingStage) (r : Result Effects E) → o ≡ Some (of_kind AsAcceptor link) → link.number ≡ number
+      → IfOk r (λ given. IsIncomingGone own (lossy_session link.stage) old new given) → IsGoneBy r
+  gone_incoming link (Err e) is n c = tt
+  gone_incoming link (Ok given) is n c =
+      rw (is, n) (incoming_by own number all links old new given h l link.stage c)
 
   pub gone_own : (link : Link connector.Stage) (was_open : Bool) (r : Result Effects E) → o ≡ Some (of_kind AsConnector link) → link.number ≡ number
       → was_open ≡ connector.is_open link.stage → new ≡ old

@@ -7,8 +7,8 @@ use Rattle.cx_verifying.specs.cx_rules_session.specs.Forgets.{abridged_daemon_li
 use Rattle.cx_verifying.specs.cx_rules_session.proofs.DaemonForgets.{daemon-forgets-links, in-same}
 use Rattle.cx_verifying.specs.cx_rules_session.proofs.KindsAlike.{links-left, numbers-picked}
 use Rattle.cx_steps.specs.declared.effects.Effects.{Effects}
-use Rattle.cx_turns.specs.Steps.{node_of}
-use Rattle.cx_turns.proofs.Rising.{filter_rising}
+use Rattle.cx_node.specs.steps.Steps.{node_of}
+use Rattle.cx_node.proofs.steps.Rising.{filter_rising}
 use Rattle.cx_daemon_events.specs.Kinds.{DaemonLink}
 use Rattle.cx_daemon_events.specs.Machine.{AreHeld, IsStep}
 use Rattle.cx_daemon_events.specs.Shutting.{is_shut_by}

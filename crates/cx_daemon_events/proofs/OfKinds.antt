@@ -3,28 +3,28 @@ use Rattle.std.proofs.Common.{◌≡◌, ◌∙◌, ℕ, List, ◌++◌, Option,
 use Rattle.std.specs.Prelude.{IfSome, OnOk}
 use Rattle.std.specs.Option.{option_map}
 use Rattle.cx_node.specs.Made.{as_row}
-use Rattle.cx_node.specs.cx_rules.specs.Abridged.{abridged_asker_link, abridged_link}
+use Rattle.cx_node.specs.cx_rules.specs.Abridged.{abridged_mon_client_link, abridged_link}
 use Rattle.cx_node.specs.cx_rules.specs.Connector as connector
 use Rattle.cx_node.specs.cx_rules.specs.Links.{Link}
 use Rattle.cx_node.specs.cx_rules.specs.Rows.{Row, Turned, Waits, Refuses, Handles}
 use Rattle.cx_verifying.specs.cx_rules_session.specs.DaemonRule.{DaemonStage, AsAcceptor, AsConnector}
 use Rattle.cx_verifying.specs.cx_rules_session.specs.Forgets.{abridged_daemon_link}
-use Rattle.cx_verifying.specs.cx_rules_session.specs.Guests.{GuestStage}
+use Rattle.cx_verifying.specs.cx_rules_session.specs.IncomingLinks.{IncomingStage}
 use Rattle.cx_verifying.specs.cx_rules_session.specs.Kinds.{of_kind, row_of_kind, turn_of_kind}
 use Rattle.cx_verifying.specs.cx_rules_session.proofs.KindsAlike.{FollowsKind}
-use Rattle.cx_turns.specs.Making.{own_behind, row_due}
-use Rattle.cx_turns.specs.Steps.{IsFed, IsTurn, Stays, turn_due, turn_made}
-use Rattle.cx_turns.specs.Turns.{HasNumber}
-use Rattle.cx_turns.specs.declared.came.Came.{Came}
-use Rattle.cx_turns.specs.declared.came.Came.TheVariants as came
+use Rattle.cx_node.specs.steps.Making.{own_behind, row_due}
+use Rattle.cx_node.specs.steps.Steps.{IsFed, IsTurn, Stays, turn_due, turn_made}
+use Rattle.cx_node.specs.steps.Turns.{HasNumber}
+use Rattle.cx_node.specs.declared.came.Came.{Came}
+use Rattle.cx_node.specs.declared.came.Came.TheVariants as came
 use Rattle.cx_daemon_events.specs.Kinds.{DaemonLink, came_of_kind, made_of_kind}
 
 -- ---- links
 
-pub guest_follows : FollowsKind AsAcceptor abridged_link abridged_daemon_link
-guest_follows l = refl
+pub incoming_follows : FollowsKind AsAcceptor abridged_link abridged_daemon_link
+incoming_follows l = refl
 
-pub own_follows : FollowsKind AsConnector abridged_asker_link abridged_daemon_link
+pub own_follows : FollowsKind AsConnector abridged_mon_client_link abridged_daemon_link
 own_follows l = refl
 
 module _ {S : Type 0} (kind : S → DaemonStage) (own : Link S → Link S) (follows : FollowsKind kind own abridged_daemon_link) where
@@ -38,13 +38,13 @@ module _ {S : Type 0} (kind : S → DaemonStage) (own : Link S → Link S) (foll
   fed_result bytes old new (Ok x) is = fed_of_kind bytes old new is
   fed_result bytes old new (Err e) is = tt
 
-pub guest_fed : {X E : Type 0} (bytes : List ℕ) (old new : Link GuestStage) (r : Result X E) → OnOk r (IsFed abridged_link old bytes new)
+pub incoming_fed : {X E : Type 0} (bytes : List ℕ) (old new : Link IncomingStage) (r : Result X E) → OnOk r (IsFed abridged_link old bytes new)
     → OnOk r (IsFed abridged_daemon_link (of_kind AsAcceptor old) bytes (of_kind AsAcceptor new))
-guest_fed bytes old new r is = fed_result AsAcceptor abridged_link guest_follows bytes old new r is
+incoming_fed bytes old new r is = fed_result AsAcceptor abridged_link incoming_follows bytes old new r is
 
-pub own_fed : {X E : Type 0} (bytes : List ℕ) (old new : Link connector.Stage) (r : Result X E) → OnOk r (IsFed abridged_asker_link old bytes new)
+pub own_fed : {X E : Type 0} (bytes : List ℕ) (old new : Link connector.Stage) (r : Result X E) → OnOk r (IsFed abridged_mon_client_link old bytes new)
     → OnOk r (IsFed abridged_daemon_link (of_kind AsConnector old) bytes (of_kind AsConnector new))
-own_fed bytes old new r is = fed_result AsConnector abridged_asker_link own_follows bytes old new r is
+own_fed bytes old new r is = fed_result AsConnector abridged_mon_client_link own_follows bytes old new r is
 
 -- ---- rows
 

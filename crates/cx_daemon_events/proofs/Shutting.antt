@@ -5,7 +5,7 @@ use Rattle.std.specs.List.{list_any}
 use Rattle.std.proofs.lemmas.Bool.Decides.{nat_tests}
 use Rattle.std.proofs.lemmas.List.Folds.{list_any_more}
 use Rattle.cx_node.specs.cx_rules.specs.Links.{Link}
-use Rattle.cx_turns.specs.Stages.{AreRising}
+use Rattle.cx_node.specs.steps.Stages.{AreRising}
 
 either_way : (m n : ℕ) → (m == n) ≡ (n == m)
 either_way m n = grind (arith, nat_tests)

@@ -10,8 +10,8 @@ use Rattle.cx_steps.specs.Nothing.{nothing}
 use Rattle.cx_steps.specs.declared.effects.Effects.{Effects}
 use Rattle.cx_steps.specs.declared.events.Peer.{Peer}
 use Rattle.cx_steps.specs.declared.events.Peer.TheVariants as peers
-use Rattle.cx_turns.specs.Steps.{node_of}
-use Rattle.cx_turns.proofs.Steps as steps
+use Rattle.cx_node.specs.steps.Steps.{node_of}
+use Rattle.cx_node.proofs.steps.Steps as steps
 use Rattle.cx_daemon_events.specs.Kinds.{DaemonLink}
 use Rattle.cx_daemon_events.specs.Machine.{AreHeld, IsStep}
 

@@ -12,14 +12,14 @@ use Rattle.cx_daemon_events.specs.Shutting.{is_shut_by}
 -- that it ended is entered where it lived
 abbrev pub told_ended : Daemon → ℕ → Bool → Effects
 told_ended own session lived =
-    if lived then record nothing { entries = entry.Ended (record { daemon = own.asker.name; session = session }) ∷ [] } else nothing
+    if lived then record nothing { entries = entry.Ended (record { daemon = own.mon_client.name; session = session }) ∷ [] } else nothing
 
 -- and its links are shut
 abbrev pub told_dropped : Daemon → ℕ → List DaemonLink → Bool → Effects
 told_dropped own session links lived =
     if lived then record (told_ended own session true) { shuts = map (λ link. link.number) (filter (is_shut_by session None) links) } else nothing
 
--- what is told of a guest's link that is gone, by the session that ends with it, if one does; and the book behind that
-abbrev pub IsGuestGone : Daemon → Option ℕ → Book Authority → Book Authority → Effects → Type 0
-IsGuestGone own None old new given = (given ≡ nothing) × (new ≡ old)
-IsGuestGone own (Some session) old new given = (given ≡ told_ended own session (is_some (with_number session old.live))) × (new ≡ ended old session)
+-- what is told of an incoming link that is gone, by the session that ends with it, if one does; and the book behind that
+abbrev pub IsIncomingGone : Daemon → Option ℕ → Book Authority → Book Authority → Effects → Type 0
+IsIncomingGone own None old new given = (given ≡ nothing) × (new ≡ old)
+IsIncomingGone own (Some session) old new given = (given ≡ told_ended own session (is_some (with_number session old.live))) × (new ≡ ended old session)

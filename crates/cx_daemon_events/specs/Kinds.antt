@@ -5,17 +5,17 @@ use Rattle.cx_node.specs.declared.rows.Row.{Row as Made}
 use Rattle.cx_node.specs.cx_rules.specs.Links.{Link}
 use Rattle.cx_verifying.specs.cx_rules_session.specs.DaemonRule.{DaemonStage, AsAcceptor, AsConnector}
 use Rattle.cx_verifying.specs.cx_rules_session.specs.Kinds.{of_kind}
-use Rattle.cx_turns.specs.declared.came.Came.{Came}
-use Rattle.cx_turns.specs.declared.came.Came.TheVariants as came
+use Rattle.cx_node.specs.declared.came.Came.{Came}
+use Rattle.cx_node.specs.declared.came.Came.TheVariants as came
 use Rattle.cx_daemon_events.specs.declared.links.Kind.{Kind}
-use Rattle.cx_daemon_events.specs.declared.links.Kind.TheVariants.{Guest, Own}
+use Rattle.cx_daemon_events.specs.declared.links.Kind.TheVariants.{Incoming, Own}
 
 abbrev pub DaemonLink : Type 0
 DaemonLink = Link DaemonStage
 
 -- a link as the rules have it
 abbrev pub link_held : Kind → DaemonLink
-link_held (Guest link) = of_kind AsAcceptor link
+link_held (Incoming link) = of_kind AsAcceptor link
 link_held (Own link) = of_kind AsConnector link
 
 -- a row that was made on a link of a kind

@@ -10,31 +10,31 @@ use Rattle.cx_journal.specs.declared.outcomes.Reason.TheVariants.{LinksFull}
 use Rattle.cx_node.specs.cx_rules.specs.Acceptor as acceptor
 use Rattle.cx_node.specs.cx_rules.specs.Connector as connector
 use Rattle.cx_node.specs.cx_rules.specs.Greetings.{own_banner}
-use Rattle.cx_node.specs.cx_rules.specs.Holdings.{Asker, holds_nothing, modes_of, no_view}
+use Rattle.cx_node.specs.cx_rules.specs.Holdings.{MonClient, holds_nothing, modes_of, no_view}
 use Rattle.cx_node.specs.cx_rules.specs.Inputs.{Input, Opened, NoLink}
 use Rattle.cx_node.specs.cx_rules.specs.Links.{Link}
 use Rattle.cx_node.specs.cx_rules.specs.Requests.{Requests, asks_rotating, first_open}
 use Rattle.cx_node.specs.cx_rules.specs.Rows.{Outcome, Row, arrival, goes_on, lifted, new_link, refuses}
 use Rattle.cx_node.specs.cx_rules.specs.Secured.{Secured}
 use Rattle.cx_verifying.specs.cx_rules_session.specs.Asks.{with_book}
-use Rattle.cx_verifying.specs.cx_rules_session.specs.DaemonRule.{AsAcceptor, AsConnector, Daemon, DaemonNode, DaemonStage, DaemonState, asking_open, book_after, book_reply, opening_daemon, me, open_to_ask, undialled, with_asker}
+use Rattle.cx_verifying.specs.cx_rules_session.specs.DaemonRule.{AsAcceptor, AsConnector, Daemon, DaemonNode, DaemonStage, DaemonState, asking_open, book_after, book_reply, opening_daemon, me, open_to_ask, undialled, with_mon_client}
 use Rattle.cx_verifying.specs.cx_rules_session.specs.Forgets.{abridged_daemon_link, abridged_state}
 use Rattle.cx_verifying.specs.cx_rules_session.specs.Hosting.{Deciding}
 use Rattle.cx_verifying.specs.cx_rules_session.specs.Kinds.{of_kind}
 use Rattle.cx_session.specs.Book.{Book, empty_book}
 use Rattle.cx_steps.specs.declared.effects.Effects.{Effects}
 use Rattle.cx_steps.specs.declared.events.Peer.TheVariants as peer
-use Rattle.cx_turns.specs.Events.{link_in}
-use Rattle.cx_turns.specs.Steps as steps
-use Rattle.cx_turns.specs.Steps.{without_lost}
+use Rattle.cx_node.specs.steps.Events.{link_in}
+use Rattle.cx_node.specs.steps.Steps as steps
+use Rattle.cx_node.specs.steps.Steps.{without_lost}
 use Rattle.cx_daemon_events.specs.Kinds.{DaemonLink}
 
 abbrev pub DaemonRow : Type 0
 DaemonRow = Row Daemon DaemonStage
 
 -- one that asks the monitor as it begins, with its name, its key, its modes and its address: it holds nothing yet
-abbrev pub opening_asker : Name → Key → OfferedModes → Addr → Asker
-opening_asker name key modes address = record {
+abbrev pub opening_mon_client : Name → Key → OfferedModes → Addr → MonClient
+opening_mon_client name key modes address = record {
   name = name;
   secret = key.secret;
   address = address;
@@ -72,8 +72,8 @@ abbrev pub state_of : Daemon → List DaemonLink → Book Authority → DaemonSt
 state_of own links book = record { node = record { own = own; links = links }; book = book }
 
 -- as it begins
-abbrev pub opening_state : Asker → DaemonState
-opening_state asker = record { node = opening_daemon asker; book = empty_book }
+abbrev pub opening_state : MonClient → DaemonState
+opening_state mon_client = record { node = opening_daemon mon_client; book = empty_book }
 
 -- where memory is wanting, the sessions are as before
 abbrev pub lost_state : Input → DaemonState → DaemonState
@@ -91,9 +91,9 @@ abbrev pub banner_sent : Daemon → ℕ → ℕ → List ℕ → DaemonRow
 banner_sent own number reading draw =
     let stage : DaemonStage = AsConnector (connector.AwaitsBanner 0) in goes_on (arrival (me own) own (new_link number stage) reading draw) stage own_banner []
 
--- the banner is sent on a guest's link of this number, unless there is no place for it
-abbrev pub guest_greeted : Bool → Daemon → ℕ → ℕ → List ℕ → DaemonRow
-guest_greeted full own number reading draw =
+-- the banner is sent on an incoming link of this number, unless there is no place for it
+abbrev pub incoming_greeted : Bool → Daemon → ℕ → ℕ → List ℕ → DaemonRow
+incoming_greeted full own number reading draw =
     let stage : DaemonStage = AsAcceptor acceptor.AwaitsBanner in
     let a = arrival (me own) own (new_link number stage) reading draw in
     if full then refuses a LinksFull [] else goes_on a stage own_banner []
@@ -108,4 +108,4 @@ pub record IsFirstOpen (links : List DaemonLink) (link : Link connector.Stage) :
 -- generations are asked for on a link that is open, and keeps this
 abbrev pub generations_asked : Daemon → ℕ → List ℕ → Link connector.Stage → Secured → Requests → DaemonRow
 generations_asked own reading draw link s requests =
-    lifted (with_asker own) (asks_rotating open_to_ask (arrival (me own) own.asker (of_kind AsConnector link) reading draw) s requests)
+    lifted (with_mon_client own) (asks_rotating open_to_ask (arrival (me own) own.mon_client (of_kind AsConnector link) reading draw) s requests)

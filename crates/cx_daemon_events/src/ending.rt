@@ -4,8 +4,8 @@ ghost use Rattle.std.specs.Prelude.{◌≡◌, None, IfOk, OnErr, is_some};
 ghost use Rattle.cx_node.specs.cx_rules.specs.Links.{link_of, without_link};
 ghost use Rattle.cx_verifying.specs.cx_rules_session.specs.DaemonRule as rule;
 ghost use Rattle.cx_session.specs.Book.{ended, with_number};
-ghost use Rattle.cx_turns.specs.Steps.{node_of};
-ghost use Rattle.cx_daemon_events.specs.Ending.{IsGuestGone, told_dropped, told_ended};
+ghost use Rattle.cx_node.specs.steps.Steps.{node_of};
+ghost use Rattle.cx_daemon_events.specs.Ending.{IsIncomingGone, told_dropped, told_ended};
 ghost use Rattle.cx_verifying.specs.Stages.{lossy_session};
 ghost use Rattle.cx_daemon_events.specs.Machine.{AreHeld, IsBookStep};
 
@@ -18,7 +18,7 @@ use cx_journal::{Ended, Entry};
 use cx_node::{Links, enters};
 use cx_session::{BookCall, BookReply, SessionBook};
 use cx_steps::Effects;
-use cx_verifying as guests;
+use cx_verifying as incoming_links;
 use cx_verifying::SessionOwner;
 use std::alloc::{AllocError, Global};
 
@@ -49,19 +49,19 @@ pub fn goes(
     };
     links.give_up();
     match link.kind {
-        Kind::Guest(link) => guest_gone(alloc, own, book, &link),
+        Kind::Incoming(link) => incoming_gone(alloc, own, book, &link),
         Kind::Own(link) => told_lost(alloc, own, number, link.is_open()),
     }
 }
 
-// What is told of a guest's link that is gone.
-fn guest_gone(
+// What is told of an incoming link that is gone.
+fn incoming_gone(
     alloc: Global,
     own: &Own,
     book: &mut Book,
-    link: &guests::Link,
+    link: &incoming_links::Link,
 ) -> Result<Effects, AllocError>
-    ensures gone { IfOk result (IsGuestGone own.now (lossy_session link.now.stage) book.old.book book.new.book) }
+    ensures gone { IfOk result (IsIncomingGone own.now (lossy_session link.now.stage) book.old.book book.new.book) }
     ensures err { OnErr result (book.new ≡ book.old) }
 {
     match link.lossy_session() {
@@ -89,7 +89,7 @@ fn told_ended(alloc: Global, own: &Own, session: u64, lived: bool) -> Result<Eff
     if !lived {
         return Ok(Effects::new(alloc));
     }
-    let daemon = own.asker().name().copy(alloc)?;
+    let daemon = own.mon_client().name().copy(alloc)?;
     enters(alloc, Entry::Ended(Ended { daemon, session }))
 }
 

@@ -9,17 +9,16 @@ ghost use Rattle.cx_verifying.specs.cx_rules_session.specs.DaemonRule as rule;
 ghost use Rattle.cx_verifying.specs.cx_rules_session.specs.DaemonRule.{me};
 ghost use Rattle.cx_steps.specs.Nothing.{nothing};
 ghost use Rattle.cx_steps.specs.declared.events.Peer.TheVariants.{Monitor};
-ghost use Rattle.cx_turns.specs.Steps.{node_of};
+ghost use Rattle.cx_node.specs.steps.Steps.{node_of};
 ghost use Rattle.cx_daemon_events.specs.Kinds.{DaemonLink};
 ghost use Rattle.cx_daemon_events.specs.Machine.{AreHeld, IsStep, lost};
 
 use crate::links::Link;
 use crate::own::Own;
 use cx_journal::{Entry, Reason};
-use cx_node::{Links, enters, refused_entry};
+use cx_node::{Links, Moment, enters, refused_entry, unopened};
 use cx_rotate::View;
 use cx_steps::{Effects, Peer};
-use cx_turns::{Moment, unopened};
 use std::alloc::{AllocError, Global};
 
 /// How many links a node has places for.
@@ -27,7 +26,7 @@ const MOST_LINKS: usize = 1024;
 
 // ---- a link opens, or can't be opened
 
-/// A guest's link is greeted, and one that the daemon waits for; any other is passed over.
+/// An incoming link is greeted, and one that the daemon waits for; any other is passed over.
 #[tactic(auto, using(crate::proofs::Steps::idles_step))]
 pub fn opens(
     alloc: Global,
@@ -45,14 +44,14 @@ pub fn opens(
     ensures held { AreHeld links.new.links }
 {
     match peer {
-        None => greets_guest(alloc, own, links, at),
+        None => greets_incoming(alloc, own, links, at),
         Some(Peer::Monitor) => opens_own(alloc, own, links, at),
         Some(Peer::Daemon(_)) => Ok(Effects::new(alloc)),
     }
 }
 
-// The banner is sent on a guest's link, unless as many links live as there are places.
-fn greets_guest(
+// The banner is sent on an incoming link, unless as many links live as there are places.
+fn greets_incoming(
     alloc: Global,
     own: &Own,
     links: &mut Links<Link>,
@@ -61,14 +60,14 @@ fn greets_guest(
     requires room { links.old.room ≡ None }
     requires held { AreHeld links.old.links }
     ensures step { IfOk result (IsStep (node_of own.now links.new.links)
-        (rule.opens_guest (node_of own.now links.old.links) at.now.reading at.now.draw.now.bytes at.now.number)) }
+        (rule.opens_incoming (node_of own.now links.old.links) at.now.reading at.now.draw.now.bytes at.now.number)) }
     ensures lost { OnErr result (links.new.links ≡ without_link at.now.number links.old.links) }
     ensures room { links.new.room ≡ None }
     ensures held { AreHeld links.new.links }
 {
     let full = links.len() >= MOST_LINKS;
-    let greeted = own.greets_guest(alloc, at, full);
-    cx_turns::opens(alloc, links, at.number, greeted)
+    let greeted = own.greets_incoming(alloc, at, full);
+    cx_node::opens(alloc, links, at.number, greeted)
 }
 
 // A link to the monitor that is waited for is greeted, and isn't waited for any more.
@@ -110,7 +109,7 @@ fn greets_monitor(
     ensures held { AreHeld links.new.links }
 {
     let greeted = own.greets(alloc, at);
-    cx_turns::opens(alloc, links, at.number, greeted)
+    cx_node::opens(alloc, links, at.number, greeted)
 }
 
 /// A link could not be opened; one to the monitor isn't waited for any more.
@@ -157,7 +156,7 @@ pub fn comes(
     ensures room { links.new.room ≡ None }
     ensures held { AreHeld links.new.links }
 {
-    cx_turns::comes(alloc, links, number, bytes)
+    cx_node::comes(alloc, links, number, bytes)
 }
 
 // ---- a link of the daemon's own is gone

@@ -6,7 +6,7 @@ ghost use Rattle.cx_verifying.specs.cx_rules_session.specs.DaemonRule as rule;
 ghost use Rattle.cx_verifying.specs.cx_rules_session.specs.DaemonRule.{asking_open};
 ghost use Rattle.cx_steps.specs.Nothing.{nothing};
 ghost use Rattle.cx_steps.specs.declared.events.Peer.TheVariants.{Monitor};
-ghost use Rattle.cx_turns.specs.Steps.{node_of};
+ghost use Rattle.cx_node.specs.steps.Steps.{node_of};
 ghost use Rattle.cx_daemon_events.specs.Machine.{AreHeld, IsStep};
 
 use crate::links::Link;
@@ -14,9 +14,8 @@ use crate::own::Own;
 use crate::scans::{first_open, is_fetching};
 use cx_base::{Items, Reading};
 use cx_dice::Draw;
-use cx_node::{Links, Numbered};
+use cx_node::{Links, Moment, Numbered, stands};
 use cx_steps::{Effects, Peer};
-use cx_turns::{Moment, stands};
 use std::alloc::{AllocError, Global};
 
 /// At a tick a daemon fetches where it holds no generations, or the second of them has expired.

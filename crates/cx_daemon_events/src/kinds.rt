@@ -5,13 +5,12 @@ ghost use Rattle.cx_verifying.specs.cx_rules_session.specs.DaemonRule.{AsAccepto
 ghost use Rattle.cx_daemon_events.specs.Kinds.{came_of_kind, made_of_kind};
 
 use crate::links::{Kind, Link};
-use cx_connector as connector;
-use cx_node::Row;
-use cx_turns::{Came, NodeRow};
-use cx_verifying as guests;
+use cx_monclient as connector;
+use cx_node::{Came, NodeRow, Row};
+use cx_verifying as incoming_links;
 
-/// A row on a link of a guest.
-pub fn of_guest(row: Row<guests::Link>) -> Row<Link>
+/// A row on an incoming link.
+pub fn of_incoming(row: Row<incoming_links::Link>) -> Row<Link>
     ensures { result ≡ made_of_kind AsAcceptor row }
 {
     let Row {
@@ -23,7 +22,7 @@ pub fn of_guest(row: Row<guests::Link>) -> Row<Link>
     } = row;
     let link = match link {
         Some(link) => Some(Link {
-            kind: Kind::Guest(link),
+            kind: Kind::Incoming(link),
         }),
         None => None,
     };
@@ -62,17 +61,17 @@ pub fn of_own(row: Row<connector::Link>) -> Row<Link>
     }
 }
 
-/// What a turn of a guest's link came to: nothing of the daemon's own is changed.
-pub fn came_of_guest(came: Came<guests::Link, ()>) -> Came<Link, connector::BoxedChange>
+/// What a turn of an incoming link came to: nothing of the daemon's own is changed.
+pub fn came_of_incoming(came: Came<incoming_links::Link, ()>) -> Came<Link, connector::BoxedChange>
     ensures { result ≡ came_of_kind AsAcceptor (λ _. None) came }
 {
     match came {
         Came::Waits(link) => Came::Waits(Link {
-            kind: Kind::Guest(link),
+            kind: Kind::Incoming(link),
         }),
         Came::Refuses(why, opened) => Came::Refuses(why, opened),
         Came::Handles(NodeRow { row, change: _ }) => Came::Handles(NodeRow {
-            row: of_guest(row),
+            row: of_incoming(row),
             change: None,
         }),
     }

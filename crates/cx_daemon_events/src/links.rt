@@ -1,21 +1,20 @@
-//! The links of a daemon: those of its guests, and its own to the monitor.
+//! The links of a daemon: those of its clients, and its own to the monitor.
 
 ghost use Rattle.std.specs.Prelude.{ℕ, ◌≡◌};
-ghost use Rattle.cx_daemon_events.specs.Regards.{regard_guest};
-ghost use Rattle.cx_verifying.specs.Stages as guest;
+ghost use Rattle.cx_daemon_events.specs.Regards.{regard_incoming};
+ghost use Rattle.cx_verifying.specs.Stages as incoming;
 
-use cx_connector as connector;
-use cx_links::Regard;
-use cx_node::Numbered;
-use cx_turns::Feeds;
-use cx_verifying as guests;
+use cx_monclient as connector;
+use cx_node::{Feeds, Numbered};
+use cx_outside::Regard;
+use cx_verifying as incoming_links;
 use std::alloc::{AllocError, Global};
 use std::marker::Model;
 
 /// Who opened a link, with the link as it is held at that end.
 #[derive(Drop)]
 pub enum Kind {
-    Guest(guests::Link),
+    Incoming(incoming_links::Link),
     /// The daemon itself, to the monitor.
     Own(connector::Link),
 }
@@ -49,7 +48,7 @@ impl Link {
         ensures { result ≡ is_for_fetch self.now.stage }
     {
         match &self.kind {
-            Kind::Guest(_) => false,
+            Kind::Incoming(_) => false,
             Kind::Own(link) => link.is_fetching(),
         }
     }
@@ -59,7 +58,7 @@ impl Link {
         ensures { result ≡ is_in session self.now.stage }
     {
         match &self.kind {
-            Kind::Guest(link) => link.is_in(session),
+            Kind::Incoming(link) => link.is_in(session),
             Kind::Own(_) => false,
         }
     }
@@ -70,7 +69,7 @@ impl Link {
         ensures none { IfNone result (asking_open self.now.stage ≡ None) }
     {
         match &self.kind {
-            Kind::Guest(_) => None,
+            Kind::Incoming(_) => None,
             Kind::Own(link) => { if link.is_open() { Some(link) } else { None } }
         }
     }
@@ -80,7 +79,7 @@ impl Link {
         ensures { result ≡ regard_at self.now.stage }
     {
         match &self.kind {
-            Kind::Guest(link) => regard_guest(&link.stage),
+            Kind::Incoming(link) => regard_incoming(&link.stage),
             Kind::Own(link) => {
                 if link.is_quiet() {
                     Regard::Known
@@ -92,18 +91,18 @@ impl Link {
     }
 }
 
-// How a daemon regards a guest.
-fn regard_guest(stage: &guests::Stage) -> Regard
-    ensures { (number : ℕ) → result ≡ regard_guest (guest.link_held number stage.now).stage }
+// How a daemon regards a client.
+fn regard_incoming(stage: &incoming_links::Stage) -> Regard
+    ensures { (number : ℕ) → result ≡ regard_incoming (incoming.link_held number stage.now).stage }
 {
     match stage {
-        guests::Stage::AwaitsBanner(_) => Regard::Stranger,
-        guests::Stage::AwaitsHello(_) => Regard::Stranger,
-        guests::Stage::AwaitsRequest(_) => Regard::Stranger,
-        guests::Stage::AwaitsProof(_, _) => Regard::Stranger,
-        guests::Stage::AwaitsSignature(_, _) => Regard::Stranger,
-        guests::Stage::AwaitsIdent(_, _) => Regard::Known,
-        guests::Stage::Open(_, _) => Regard::Known,
+        incoming_links::Stage::AwaitsBanner(_) => Regard::Stranger,
+        incoming_links::Stage::AwaitsHello(_) => Regard::Stranger,
+        incoming_links::Stage::AwaitsRequest(_) => Regard::Stranger,
+        incoming_links::Stage::AwaitsProof(_, _) => Regard::Stranger,
+        incoming_links::Stage::AwaitsSignature(_, _) => Regard::Stranger,
+        incoming_links::Stage::AwaitsIdent(_, _) => Regard::Known,
+        incoming_links::Stage::Open(_, _) => Regard::Known,
     }
 }
 
@@ -112,7 +111,7 @@ impl Numbered for Link {
 
     fn number(&self) -> u32 {
         match &self.kind {
-            Kind::Guest(link) => link.number(),
+            Kind::Incoming(link) => link.number(),
             Kind::Own(link) => link.number(),
         }
     }
@@ -120,14 +119,14 @@ impl Numbered for Link {
 
 impl Feeds for Link {
     ghost use Rattle.cx_verifying.specs.cx_rules_session.specs.Forgets.{abridged_daemon_link};
-    ghost use Rattle.cx_turns.specs.Steps as steps;
+    ghost use Rattle.cx_node.specs.steps.Steps as steps;
 
     ghost IsFed = { steps.IsFed abridged_daemon_link };
 
-    #[tactic(auto, using(crate::proofs::OfKinds::guest_fed, crate::proofs::OfKinds::own_fed))]
+    #[tactic(auto, using(crate::proofs::OfKinds::incoming_fed, crate::proofs::OfKinds::own_fed))]
     fn feed(&mut self, alloc: Global, bytes: &[u8]) -> Result<(), AllocError> {
         match &mut self.kind {
-            Kind::Guest(link) => link.feed(alloc, bytes),
+            Kind::Incoming(link) => link.feed(alloc, bytes),
             Kind::Own(link) => link.feed(alloc, bytes),
         }
     }

@@ -6,26 +6,25 @@ ghost use Rattle.cx_node.specs.cx_rules.specs.Connector.{is_open, kept_open};
 ghost use Rattle.cx_node.specs.cx_rules.specs.Requests.{Requests, is_outdated};
 ghost use Rattle.cx_node.specs.cx_rules.specs.Secured.{Secured};
 ghost use Rattle.cx_verifying.specs.cx_rules_session.specs.Forgets.{abridged_daemon_link};
-ghost use Rattle.cx_turns.specs.Making.{row_due};
-ghost use Rattle.cx_daemon_events.specs.Machine.{banner_sent, generations_asked, guest_greeted};
+ghost use Rattle.cx_node.specs.steps.Making.{row_due};
+ghost use Rattle.cx_daemon_events.specs.Machine.{banner_sent, generations_asked, incoming_greeted};
 
-use crate::kinds::{of_guest, of_own};
+use crate::kinds::{of_incoming, of_own};
 use crate::links::Link;
 use cx_base::{Addr, EntityName, NodeName, Reading};
-use cx_connector as connector;
 use cx_enc::Key;
-use cx_holdings::{Asker, OfferedModes};
-use cx_node::Row;
+use cx_holdings::{MonClient, OfferedModes};
+use cx_monclient as connector;
+use cx_node::{Moment, Row};
 use cx_rotate::View;
-use cx_turns::Moment;
-use cx_verifying as guests;
+use cx_verifying as incoming_links;
 use std::alloc::{AllocError, Global};
 use std::marker::Model;
 
 /// Itself as one that asks the monitor, with the generations that it was told last, and whether it waits for a link to the monitor that it opens.
 #[derive(Drop)]
 pub struct Own {
-    asker: Asker,
+    mon_client: MonClient,
     dials: bool,
 }
 
@@ -34,37 +33,37 @@ impl Model for Own {
 
     ghost Value = { Daemon };
 
-    ghost view = { λ o. record { asker = o.asker; dials = o.dials } };
+    ghost view = { λ o. record { mon_client = o.mon_client; dials = o.dials } };
 }
 
 impl Own {
     ghost use Rattle.cx_node.specs.cx_rules.specs.Holdings.{afresh};
-    ghost use Rattle.cx_verifying.specs.cx_rules_session.specs.DaemonRule.{me, with_asker};
-    ghost use Rattle.cx_connector.specs.Rows.{changed};
-    ghost use Rattle.cx_daemon_events.specs.Machine.{opening_asker};
+    ghost use Rattle.cx_verifying.specs.cx_rules_session.specs.DaemonRule.{me, with_mon_client};
+    ghost use Rattle.cx_monclient.specs.connector.Rows.{changed};
+    ghost use Rattle.cx_daemon_events.specs.Machine.{opening_mon_client};
 
     /// As the daemon begins.
     pub fn new(name: EntityName, key: Key, modes: OfferedModes, address: Addr) -> Own
-        ensures { result ≡ record { asker = opening_asker name key modes address; dials = false } }
+        ensures { result ≡ record { mon_client = opening_mon_client name key modes address; dials = false } }
     {
         Own {
-            asker: Asker::new(name, key, address, modes),
+            mon_client: MonClient::new(name, key, address, modes),
             dials: false,
         }
     }
 
     /// Itself as one that asks the monitor.
-    pub fn asker(&self) -> &Asker
-        ensures { result.now ≡ self.now.asker }
+    pub fn mon_client(&self) -> &MonClient
+        ensures { result.now ≡ self.now.mon_client }
     {
-        &self.asker
+        &self.mon_client
     }
 
     /// Who it is, as a node.
     pub fn named(&self, alloc: Global) -> Result<NodeName, AllocError>
         ensures { IfOk result (λ named. named ≡ me self.now) }
     {
-        connector::named(alloc, &self.asker)
+        connector::named(alloc, &self.mon_client)
     }
 
     /// Whether it waits for a link to the monitor.
@@ -83,31 +82,31 @@ impl Own {
 
     /// Another view is looked at from now on.
     pub fn put_view(&mut self, view: View)
-        ensures { self.new ≡ record self.old { asker = record self.old.asker { view = view } } }
+        ensures { self.new ≡ record self.old { mon_client = record self.old.mon_client { view = view } } }
     {
-        self.asker.put_view(view);
+        self.mon_client.put_view(view);
     }
 
     /// What a row of a link to the monitor changes.
     pub fn settle(&mut self, change: connector::BoxedChange)
-        ensures { self.new ≡ with_asker self.old (changed self.old.asker change) }
+        ensures { self.new ≡ with_mon_client self.old (changed self.old.mon_client change) }
     {
-        change.settle(&mut self.asker);
+        change.settle(&mut self.mon_client);
     }
 
     /// Begins anew.
     pub fn begin_anew(&mut self)
-        ensures { self.new ≡ record { asker = afresh self.old.asker; dials = false } }
+        ensures { self.new ≡ record { mon_client = afresh self.old.mon_client; dials = false } }
     {
-        self.asker.begin_anew();
+        self.mon_client.begin_anew();
         self.dials = false;
     }
 
     /// Whether no generations are held, or the second of them has expired.
     pub fn is_outdated(&self, reading: Reading) -> bool
-        ensures { result ≡ is_outdated reading self.now.asker.view }
+        ensures { result ≡ is_outdated reading self.now.mon_client.view }
     {
-        let Some(three) = self.asker.view().generations.all() else {
+        let Some(three) = self.mon_client.view().generations.all() else {
             return true;
         };
         let [_, second, _] = three;
@@ -122,17 +121,17 @@ impl Own {
         Ok(of_own(row))
     }
 
-    /// The row of a guest's link that opens: the banner is sent, or it is shut where as many links live as there are places.
-    pub fn greets_guest(
+    /// The row of an incoming link that opens: the banner is sent, or it is shut where as many links live as there are places.
+    pub fn greets_incoming(
         &self,
         alloc: Global,
         at: &Moment<'_>,
         full: bool,
     ) -> Result<Row<Link>, AllocError>
-        ensures { IfOk result (λ row. as_row self.now row ≡ row_due abridged_daemon_link (guest_greeted full self.now at.now.number at.now.reading at.now.draw.now.bytes)) }
+        ensures { IfOk result (λ row. as_row self.now row ≡ row_due abridged_daemon_link (incoming_greeted full self.now at.now.number at.now.reading at.now.draw.now.bytes)) }
     {
-        let row = guests::greeting(alloc, &self.asker, at, full)?;
-        Ok(of_guest(row))
+        let row = incoming_links::greeting(alloc, &self.mon_client, at, full)?;
+        Ok(of_incoming(row))
     }
 
     /// The row by which generations are asked for on a link that is open.
@@ -147,7 +146,7 @@ impl Own {
         ensures { (s : Secured) (requests : Requests) → kept_open link.now.stage ≡ Some (s, requests) → IfOk result (λ row.
             as_row self.now row ≡ row_due abridged_daemon_link (generations_asked self.now at.now.reading at.now.draw.now.bytes link.now s requests)) }
     {
-        let row = connector::asks_generations(alloc, &self.asker, at, link)?;
+        let row = connector::asks_generations(alloc, &self.mon_client, at, link)?;
         Ok(of_own(row))
     }
 }

@@ -9,7 +9,7 @@ ghost use Rattle.cx_daemon_events.specs.Shutting.{is_shut_by};
 
 use crate::links::Link;
 use cx_base::Items;
-use cx_connector as connector;
+use cx_monclient as connector;
 use cx_node::{Links, Numbered};
 use std::alloc::{AllocError, Global};
 

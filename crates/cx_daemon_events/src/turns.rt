@@ -3,18 +3,17 @@
 ghost use Rattle.std.specs.Prelude.{◌≡◌, List, None, Some, IfOk, OnOk, OnErr};
 ghost use Rattle.cx_node.specs.Tables.{without};
 ghost use Rattle.cx_verifying.specs.cx_rules_session.specs.DaemonRule.{me};
-ghost use Rattle.cx_turns.specs.Making.{own_behind};
-ghost use Rattle.cx_turns.specs.Turns.{HasNumber, IsSettled, IsTurned};
+ghost use Rattle.cx_node.specs.steps.Making.{own_behind};
+ghost use Rattle.cx_node.specs.steps.Turns.{HasNumber, IsSettled, IsTurned};
 ghost use Rattle.cx_daemon_events.specs.Kinds.{DaemonLink};
 ghost use Rattle.cx_daemon_events.specs.Turns.{IsOwnTurn, with_change};
 
 use crate::kinds::came_of_own;
 use crate::links::Link;
 use crate::own::Own;
-use cx_connector as connector;
-use cx_node::{Links, refuses_bytes};
+use cx_monclient as connector;
+use cx_node::{Came, Links, Moment, NodeRow, carries, refuses_bytes};
 use cx_steps::Effects;
-use cx_turns::{Came, Moment, NodeRow, carries};
 use std::alloc::{AllocError, Global};
 
 // ---- what a turn came to is settled
@@ -97,6 +96,6 @@ fn own_turned(
     ensures come { IfOk result (IsOwnTurn own.now at.now.reading at.now.draw.now.bytes link) }
     ensures number { IfOk result (HasNumber (λ link. link.number) at.now.number) }
 {
-    let came = connector::turned(alloc, own.asker(), at, link)?;
+    let came = connector::turned(alloc, own.mon_client(), at, link)?;
     Ok(came_of_own(came))
 }

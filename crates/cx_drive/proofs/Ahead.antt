@@ -5,8 +5,8 @@ use Rattle.cx_drive.specs.Steps.{input_due}
 use Rattle.cx_drive.specs.declared.dues.Due.{Due}
 use Rattle.cx_drive.specs.declared.flow.Order.{Order}
 use Rattle.cx_drive.specs.declared.flow.Order.TheVariants as order
-use Rattle.cx_rules.specs.Inputs as input
-use Rattle.cx_rules.specs.Inputs.{Input}
+use Rattle.cx_client.specs.cx_rules_session.specs.cx_rules.specs.Inputs as input
+use Rattle.cx_client.specs.cx_rules_session.specs.cx_rules.specs.Inputs.{Input}
 
 -- nothing is next
 pub none_next : (a : Agenda) → a.due ≡ [] → a.turning ≡ None → next_input a ≡ None

@@ -5,8 +5,8 @@ use Rattle.cx_drive.specs.Steps.{Opening, Sending, address_of, carried_dues, gon
 use Rattle.cx_drive.specs.Stops.{Carried, HandedOut, Opens, Sends}
 use Rattle.cx_drive.specs.declared.dues.Due.{Due}
 use Rattle.cx_drive.specs.declared.peers.Peers.{Peers}
-use Rattle.cx_links.specs.declared.regard.Regard.{Regard}
-use Rattle.cx_site.specs.Acts.{Act}
+use Rattle.cx_outside.specs.declared.regard.Regard.{Regard}
+use Rattle.cx_outside.specs.site.Acts.{Act}
 use Rattle.cx_steps.specs.declared.effects.Effects.{Effects}
 use Rattle.cx_steps.specs.declared.effects.Piece.{Piece}
 use Rattle.cx_steps.specs.declared.events.Peer.{Peer}

@@ -5,12 +5,12 @@ use Rattle.cx_drive.specs.Courses.{Came, Taken, Took, acts_from}
 use Rattle.cx_drive.specs.Order.{SavesFirst}
 use Rattle.cx_drive.specs.Steps.{Opening, Sending, address_of, carried_acts, handed_acts, is_gone, lost_acts, open_act, open_acts, regard_act, regard_acts, saved_acts, send_act, send_acts, shut_acts, step_links, told_acts, went_effects, went_node, with_send}
 use Rattle.cx_drive.specs.declared.peers.Peers.{Peers}
-use Rattle.cx_links.specs.declared.regard.Regard.{Regard}
-use Rattle.cx_mon.specs.cx_turns.specs.Events.{link_in}
+use Rattle.cx_outside.specs.declared.regard.Regard.{Regard}
+use Rattle.cx_mon.specs.cx_node.specs.steps.Events.{link_in}
 use Rattle.cx_rotate.specs.declared.states.KeptState.{KeptState}
-use Rattle.cx_rules.specs.Inputs.{Input}
-use Rattle.cx_rules.specs.Rows.{Outcome}
-use Rattle.cx_site.specs.Acts.{Act}
+use Rattle.cx_client.specs.cx_rules_session.specs.cx_rules.specs.Inputs.{Input}
+use Rattle.cx_client.specs.cx_rules_session.specs.cx_rules.specs.Rows.{Outcome}
+use Rattle.cx_outside.specs.site.Acts.{Act}
 use Rattle.cx_steps.specs.declared.effects.Effects.{Effects}
 
 joined : (sent : Bool) (a b c : List Act) → SavesFirst sent (a ++ (b ++ c)) → SavesFirst sent ((a ++ b) ++ c)

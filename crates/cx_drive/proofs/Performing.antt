@@ -7,11 +7,11 @@ use Rattle.cx_drive.specs.declared.peers.Peers.{Peers}
 use Rattle.cx_drive.specs.declared.stops.Stop.{Stop}
 use Rattle.cx_drive.specs.declared.stops.Stop.TheVariants as stop
 use Rattle.cx_journal.specs.declared.entries.Entry.{Entry}
-use Rattle.cx_links.specs.declared.regard.Regard.{Regard}
+use Rattle.cx_outside.specs.declared.regard.Regard.{Regard}
 use Rattle.cx_rotate.specs.declared.states.KeptState.{KeptState}
-use Rattle.cx_rules.specs.Inputs.{Input}
-use Rattle.cx_rules.specs.Rows.{Outcome}
-use Rattle.cx_site.specs.Acts.{Act, Read, Rolled, Saved}
+use Rattle.cx_client.specs.cx_rules_session.specs.cx_rules.specs.Inputs.{Input}
+use Rattle.cx_client.specs.cx_rules_session.specs.cx_rules.specs.Rows.{Outcome}
+use Rattle.cx_outside.specs.site.Acts.{Act, Read, Rolled, Saved}
 use Rattle.cx_steps.specs.declared.effects.Effects.{Effects}
 
 module _ {D S : Type 0} (follows : D → D → List Act → Type 0) (rule : S → Input → ℕ → List ℕ → Outcome S) (lost : S → Input → S)

@@ -11,12 +11,12 @@ use Rattle.cx_drive.specs.declared.peers.Peers.{Peers}
 use Rattle.cx_drive.specs.declared.stops.Stop.{Stop}
 use Rattle.cx_drive.specs.declared.stops.Stop.TheVariants as stop
 use Rattle.cx_journal.specs.declared.entries.Entry.{Entry}
-use Rattle.cx_links.specs.Acts.{Broke, Gave}
-use Rattle.cx_links.specs.declared.events.LinkEvent.{LinkEvent}
-use Rattle.cx_links.specs.declared.regard.Regard.{Regard}
-use Rattle.cx_rules.specs.Inputs.{Input}
-use Rattle.cx_rules.specs.Rows.{Outcome}
-use Rattle.cx_site.specs.Acts.{Act, Linked}
+use Rattle.cx_outside.specs.linking.Acts.{Broke, Gave}
+use Rattle.cx_outside.specs.declared.events.LinkEvent.{LinkEvent}
+use Rattle.cx_outside.specs.declared.regard.Regard.{Regard}
+use Rattle.cx_client.specs.cx_rules_session.specs.cx_rules.specs.Inputs.{Input}
+use Rattle.cx_client.specs.cx_rules_session.specs.cx_rules.specs.Rows.{Outcome}
+use Rattle.cx_outside.specs.site.Acts.{Act, Linked}
 
 abbrev driven : Ended → Bool → Driven
 driven how short = record { ended = how; short = short }

@@ -5,10 +5,10 @@ pub use Rattle.cx_client.proofs.Standing.{client_loses}
 pub use Rattle.cx_mon.proofs.Standing.{monitor_loses}
 use Rattle.cx_drive.specs.Held.{regard_client, regard_monitor}
 use Rattle.cx_mon.proofs.Regarding as monitor_links
-use Rattle.cx_rules.specs.Abridged.{MonitorStandsFor}
-use Rattle.cx_rules.specs.Monitor.{MonitorNode}
-use Rattle.cx_rules_session.specs.ClientRule.{WholeClientNode}
-use Rattle.cx_rules_session.specs.Forgets.{WholeClientStandsFor}
+use Rattle.cx_client.specs.cx_rules_session.specs.cx_rules.specs.Abridged.{MonitorStandsFor}
+use Rattle.cx_client.specs.cx_rules_session.specs.cx_rules.specs.Monitor.{MonitorNode}
+use Rattle.cx_client.specs.cx_rules_session.specs.ClientRule.{WholeClientNode}
+use Rattle.cx_client.specs.cx_rules_session.specs.Forgets.{WholeClientStandsFor}
 
 -- and they regard a link alike
 pub monitor_regards : (m s : MonitorNode) (link : ℕ) → MonitorStandsFor m s → regard_monitor m link ≡ regard_monitor s link

@@ -7,12 +7,12 @@ use Rattle.cx_drive.specs.declared.ends.Driven.{Driven}
 use Rattle.cx_drive.specs.declared.ends.Ended.{Ended}
 use Rattle.cx_drive.specs.declared.peers.Peers.{Peers}
 use Rattle.cx_journal.specs.declared.entries.Entry.{Entry}
-use Rattle.cx_rules.specs.Inputs.{Input}
-use Rattle.cx_rules.specs.Rows.{Outcome}
-use Rattle.cx_links.specs.Acts.{Gave}
-use Rattle.cx_links.specs.declared.regard.Regard.{Regard}
-use Rattle.cx_mon.specs.cx_turns.specs.Events.{link_in}
-use Rattle.cx_site.specs.Acts.{Act, Linked, Read, Rolled}
+use Rattle.cx_client.specs.cx_rules_session.specs.cx_rules.specs.Inputs.{Input}
+use Rattle.cx_client.specs.cx_rules_session.specs.cx_rules.specs.Rows.{Outcome}
+use Rattle.cx_outside.specs.linking.Acts.{Gave}
+use Rattle.cx_outside.specs.declared.regard.Regard.{Regard}
+use Rattle.cx_mon.specs.cx_node.specs.steps.Events.{link_in}
+use Rattle.cx_outside.specs.site.Acts.{Act, Linked, Read, Rolled}
 use Rattle.cx_steps.specs.declared.effects.Effects.{Effects}
 
 -- what regards links alike tells alike

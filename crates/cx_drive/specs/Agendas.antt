@@ -7,10 +7,10 @@ use Rattle.cx_drive.specs.declared.dues.Due.{Due}
 use Rattle.cx_drive.specs.declared.flow.Flow.{Flow}
 use Rattle.cx_drive.specs.declared.flow.Order.{Order}
 use Rattle.cx_drive.specs.declared.flow.Order.TheVariants as order
-use Rattle.cx_links.specs.declared.events.LinkEvent.{LinkEvent}
-use Rattle.cx_links.specs.declared.events.LinkEvent.TheVariants as link
-use Rattle.cx_rules.specs.Inputs as input
-use Rattle.cx_rules.specs.Inputs.{Input}
+use Rattle.cx_outside.specs.declared.events.LinkEvent.{LinkEvent}
+use Rattle.cx_outside.specs.declared.events.LinkEvent.TheVariants as link
+use Rattle.cx_client.specs.cx_rules_session.specs.cx_rules.specs.Inputs as input
+use Rattle.cx_client.specs.cx_rules_session.specs.cx_rules.specs.Inputs.{Input}
 
 pub record Agenda : Type 0 where
   -- what is due, in the order in which it became due

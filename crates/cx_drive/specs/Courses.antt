@@ -9,13 +9,13 @@ use Rattle.cx_drive.specs.declared.ends.Ended.TheVariants as ended
 use Rattle.cx_drive.specs.declared.peers.Peers.{Peers}
 use Rattle.cx_drive.specs.declared.stops.Stop.TheVariants as stop
 use Rattle.cx_journal.specs.declared.entries.Entry.{Entry}
-use Rattle.cx_links.specs.Acts.{Broke, Gave}
-use Rattle.cx_links.specs.declared.events.LinkEvent.{LinkEvent}
-use Rattle.cx_links.specs.declared.regard.Regard.{Regard}
+use Rattle.cx_outside.specs.linking.Acts.{Broke, Gave}
+use Rattle.cx_outside.specs.declared.events.LinkEvent.{LinkEvent}
+use Rattle.cx_outside.specs.declared.regard.Regard.{Regard}
 use Rattle.cx_rotate.specs.declared.states.KeptState.{KeptState}
-use Rattle.cx_rules.specs.Inputs.{Input}
-use Rattle.cx_rules.specs.Rows.{Outcome}
-use Rattle.cx_site.specs.Acts.{Act, Linked, Read, Rolled, Saved}
+use Rattle.cx_client.specs.cx_rules_session.specs.cx_rules.specs.Inputs.{Input}
+use Rattle.cx_client.specs.cx_rules_session.specs.cx_rules.specs.Rows.{Outcome}
+use Rattle.cx_outside.specs.site.Acts.{Act, Linked, Read, Rolled, Saved}
 
 -- one thing of a run: what comes on the links of the node, with its bytes, or a step and how it went
 pub data Taken : Type 0 where

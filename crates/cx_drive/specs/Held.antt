@@ -2,18 +2,18 @@
 use Rattle.std.specs.Prelude.{ℕ, List, [], Option, None}
 use Rattle.cx_client.specs.Machine as client
 use Rattle.cx_client.specs.Regards as client_links
-pub use Rattle.cx_client.specs.Machine.{opening_asker}
+pub use Rattle.cx_client.specs.Machine.{opening_mon_client}
 use Rattle.cx_drive.specs.declared.peers.Peers.{Peers}
-use Rattle.cx_links.specs.declared.regard.Regard.{Regard}
+use Rattle.cx_outside.specs.declared.regard.Regard.{Regard}
 use Rattle.cx_mon.specs.Machine as monitor
 use Rattle.cx_mon.specs.Regards as monitor_links
-use Rattle.cx_rules.specs.Abridged.{abridged_monitor}
-use Rattle.cx_rules_session.specs.Forgets.{abridged_whole_client}
-use Rattle.cx_rules_session.specs.ClientRule.{WholeClientNode, whole_client_rule}
-use Rattle.cx_rules.specs.Inputs.{Input}
-use Rattle.cx_rules.specs.Monitor.{MonitorNode}
-use Rattle.cx_rules.specs.MonitorRule.{monitor_rule}
-use Rattle.cx_rules.specs.Rows.{Outcome}
+use Rattle.cx_client.specs.cx_rules_session.specs.cx_rules.specs.Abridged.{abridged_monitor}
+use Rattle.cx_client.specs.cx_rules_session.specs.Forgets.{abridged_whole_client}
+use Rattle.cx_client.specs.cx_rules_session.specs.ClientRule.{WholeClientNode, whole_client_rule}
+use Rattle.cx_client.specs.cx_rules_session.specs.cx_rules.specs.Inputs.{Input}
+use Rattle.cx_client.specs.cx_rules_session.specs.cx_rules.specs.Monitor.{MonitorNode}
+use Rattle.cx_client.specs.cx_rules_session.specs.cx_rules.specs.MonitorRule.{monitor_rule}
+use Rattle.cx_client.specs.cx_rules_session.specs.cx_rules.specs.Rows.{Outcome}
 
 abbrev pub held_monitor : MonitorNode → Input → ℕ → List ℕ → Outcome MonitorNode
 held_monitor node input reading draw = record {

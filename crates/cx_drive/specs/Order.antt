@@ -1,7 +1,7 @@
 -- In which order a node saves and sends.
 use Rattle.std.specs.Prelude.{◌≡◌, Bool, true, false, List, [], ◌∷◌}
-use Rattle.cx_links.specs.Acts.{Listened, Opened, Gave, Broke, Sent, Shut, Regarded}
-use Rattle.cx_site.specs.Acts.{Act, Linked, Read, Rolled, Saved}
+use Rattle.cx_outside.specs.linking.Acts.{Listened, Opened, Gave, Broke, Sent, Shut, Regarded}
+use Rattle.cx_outside.specs.site.Acts.{Act, Linked, Read, Rolled, Saved}
 
 -- behind a send no save comes before the next step begins, with its roll
 abbrev pub SavesFirst : Bool → List Act → Type 0

@@ -7,14 +7,14 @@ use Rattle.cx_base.specs.declared.addresses.Addr.{Addr}
 use Rattle.cx_drive.specs.declared.dues.Due.{Due}
 use Rattle.cx_drive.specs.declared.dues.Due.TheVariants as due
 use Rattle.cx_drive.specs.declared.peers.Peers.{Peers}
-use Rattle.cx_mon.specs.cx_turns.specs.Events.{link_in, losing}
-use Rattle.cx_links.specs.Acts.{Opened, Sent, Shut, Regarded}
-use Rattle.cx_links.specs.declared.regard.Regard.{Regard}
+use Rattle.cx_mon.specs.cx_node.specs.steps.Events.{link_in, losing}
+use Rattle.cx_outside.specs.linking.Acts.{Opened, Sent, Shut, Regarded}
+use Rattle.cx_outside.specs.declared.regard.Regard.{Regard}
 use Rattle.cx_rotate.specs.declared.states.KeptState.{KeptState}
-use Rattle.cx_rules.specs.Inputs as input
-use Rattle.cx_rules.specs.Inputs.{Input}
-use Rattle.cx_rules.specs.Rows.{Outcome}
-use Rattle.cx_site.specs.Acts.{Act, Linked, Read, Rolled, Saved}
+use Rattle.cx_client.specs.cx_rules_session.specs.cx_rules.specs.Inputs as input
+use Rattle.cx_client.specs.cx_rules_session.specs.cx_rules.specs.Inputs.{Input}
+use Rattle.cx_client.specs.cx_rules_session.specs.cx_rules.specs.Rows.{Outcome}
+use Rattle.cx_outside.specs.site.Acts.{Act, Linked, Read, Rolled, Saved}
 use Rattle.cx_steps.specs.declared.effects.Effects.{Effects}
 use Rattle.cx_steps.specs.declared.effects.Piece.{Piece}
 use Rattle.cx_steps.specs.declared.events.Peer.{Peer}

@@ -5,9 +5,9 @@ ghost use Rattle.cx_client.specs.Machine.{IsWritableInput};
 ghost use Rattle.cx_drive.specs.Agendas.{after_came, agenda_of, at_quiet, opening_agenda, passed, with_due};
 ghost use Rattle.cx_drive.specs.Courses.{RanOn, RanTo, StepsOn};
 ghost use Rattle.cx_drive.specs.Stops.{Stopped, scene};
-ghost use Rattle.cx_links.specs.Events.{IsWithin, came};
-ghost use Rattle.cx_rules.specs.Inputs as input;
-ghost use Rattle.cx_rules.specs.Inputs.{input_of};
+ghost use Rattle.cx_outside.specs.linking.Events.{IsWithin, came};
+ghost use Rattle.cx_client.specs.cx_rules_session.specs.cx_rules.specs.Inputs as input;
+ghost use Rattle.cx_client.specs.cx_rules_session.specs.cx_rules.specs.Inputs.{input_of};
 
 use crate::ends::{Driven, Ended};
 use crate::flow::{Flow, Order, turned_again};
@@ -16,8 +16,7 @@ use crate::peers::Peers;
 use crate::steps::perform;
 use crate::stops::Stop;
 use cx_journal::Journal;
-use cx_links::LinkEvent;
-use cx_site::Site;
+use cx_outside::{LinkEvent, Site};
 use cx_steps::Event;
 use std::alloc::Global;
 

@@ -4,7 +4,7 @@ ghost use Rattle.std.specs.Prelude.{◌≡◌, [], ◌∷◌, Some, IfNone, IfOk
 ghost use Rattle.std.specs.Option.{option_map};
 ghost use Rattle.cx_client.specs.Machine.{IsWritableCommand, IsWritableInput};
 ghost use Rattle.cx_drive.specs.Agendas.{agenda_of, at_quiet, gone_count, opening_agenda, passed, turning_behind, with_event};
-ghost use Rattle.cx_rules.specs.Inputs.{input_of};
+ghost use Rattle.cx_client.specs.cx_rules_session.specs.cx_rules.specs.Inputs.{input_of};
 
 use crate::dues::Due;
 use cx_base::Duplicate;

@@ -25,5 +25,5 @@ pub use stops::Stop;
 
 // The law of those that save nothing, and the nodes that it drives.
 pub use cx_client::Client;
-pub use cx_laws_saving::saving_laws;
+pub use cx_laws_node::saving_laws;
 pub use cx_mon::Monitor;

@@ -2,26 +2,26 @@
 
 ghost use Rattle.std.specs.Prelude.{ℕ, ◌≡◌, ◌<◌, Bool, List, IfOk, IfSome, OnOk, OnErr};
 ghost use Rattle.cx_client.specs.Machine.{IsWritableInput};
-ghost use Rattle.cx_mon.specs.cx_turns.specs.Events.{losing};
+ghost use Rattle.cx_mon.specs.cx_node.specs.steps.Events.{losing};
 ghost use Rattle.cx_rotate.specs.Keeping.{IsKeptState};
-ghost use Rattle.cx_rules.specs.Inputs.{Input, input_of};
-ghost use Rattle.cx_rules.specs.Rows.{Outcome};
+ghost use Rattle.cx_client.specs.cx_rules_session.specs.cx_rules.specs.Inputs.{Input, input_of};
+ghost use Rattle.cx_client.specs.cx_rules_session.specs.cx_rules.specs.Rows.{Outcome};
 
 use cx_base::Reading;
 use cx_client::Client;
 use cx_dice::Draw;
-use cx_laws_saving::saving_laws;
-use cx_links::Regard;
+use cx_laws_node::saving_laws;
 use cx_mon::Monitor;
+use cx_outside::Regard;
 use cx_steps::{Effects, Event};
 use std::alloc::{AllocError, Global};
 
 /// A node that can be driven: each step is one of a rule, on what the node holds.
 pub trait Machine {
     ghost use Rattle.std.specs.Prelude.{ℕ, Bool, List, Option};
-    ghost use Rattle.cx_links.specs.declared.regard.Regard.{Regard};
-    ghost use Rattle.cx_rules.specs.Inputs.{Input};
-    ghost use Rattle.cx_rules.specs.Rows.{Outcome};
+    ghost use Rattle.cx_outside.specs.declared.regard.Regard.{Regard};
+    ghost use Rattle.cx_client.specs.cx_rules_session.specs.cx_rules.specs.Inputs.{Input};
+    ghost use Rattle.cx_client.specs.cx_rules_session.specs.cx_rules.specs.Rows.{Outcome};
 
     // what a step does
     ghost rule: { Self → Input → ℕ → List ℕ → Outcome Self };
@@ -65,8 +65,8 @@ pub trait Machine {
 }
 
 impl Machine for Monitor {
-    ghost use Rattle.cx_rules.specs.Abridged.{abridged_monitor};
-    ghost use Rattle.cx_rules.specs.MonitorRule.{is_idle, monitor_rule};
+    ghost use Rattle.cx_client.specs.cx_rules_session.specs.cx_rules.specs.Abridged.{abridged_monitor};
+    ghost use Rattle.cx_client.specs.cx_rules_session.specs.cx_rules.specs.MonitorRule.{is_idle, monitor_rule};
     ghost use Rattle.cx_mon.specs.Machine as machine;
     ghost use Rattle.cx_mon.specs.Regards as monitor;
 
@@ -102,8 +102,8 @@ impl Machine for Monitor {
 }
 
 impl Machine for Client {
-    ghost use Rattle.cx_rules_session.specs.Forgets.{abridged_whole_client};
-    ghost use Rattle.cx_rules_session.specs.ClientRule.{is_idle, whole_client_rule};
+    ghost use Rattle.cx_client.specs.cx_rules_session.specs.Forgets.{abridged_whole_client};
+    ghost use Rattle.cx_client.specs.cx_rules_session.specs.ClientRule.{is_idle, whole_client_rule};
     ghost use Rattle.cx_client.specs.Machine as machine;
     ghost use Rattle.cx_client.specs.Regards as client;
 

@@ -4,7 +4,7 @@ ghost use Rattle.std.specs.Prelude.{[], ◌∷◌, map};
 ghost use Rattle.cx_drive.specs.Steps.{regard_act, regard_acts, step_links};
 
 use crate::machine::Machine;
-use cx_site::Site;
+use cx_outside::Site;
 use cx_steps::Piece;
 
 /// Tells how the node regards the links that a step was on, if they live: that of its event, or, where that was about none, those on which the step

@@ -5,7 +5,7 @@ ghost use Rattle.cx_client.specs.Machine.{IsWritableInput};
 ghost use Rattle.cx_drive.specs.Steps.{effects_of, node_behind};
 ghost use Rattle.cx_drive.specs.Stops.{Carried, GivesUp, Performed, Stopped, scene};
 ghost use Rattle.cx_rotate.specs.Keeping.{IsKeptState};
-ghost use Rattle.cx_rules.specs.Inputs.{input_of};
+ghost use Rattle.cx_client.specs.cx_rules_session.specs.cx_rules.specs.Inputs.{input_of};
 
 use crate::carrying::carry;
 use crate::dues::Due;
@@ -17,7 +17,7 @@ use cx_base::{Duplicate, Reading};
 use cx_dice::Draw;
 use cx_journal::{Entry, Journal};
 use cx_mon::link_in;
-use cx_site::Site;
+use cx_outside::Site;
 use cx_steps::{Effects, Event};
 use std::alloc::{AllocError, Global};
 use std::collections::VecDeque;

@@ -2,14 +2,14 @@
 #![tactic(auto)]
 
 mod answers;
-mod askers;
+mod mon_clients;
 mod offers;
 mod pending;
 mod steps;
 mod tickets;
 
 pub use answers::Answer;
-pub use askers::Asker;
+pub use mon_clients::MonClient;
 pub use offers::OfferedModes;
 pub use pending::{Login, Renewed};
 pub use tickets::Holdings;
@@ -22,6 +22,6 @@ fn all_are_sendable() {
     is_sendable::<Login>();
     is_sendable::<Renewed>();
     is_sendable::<Holdings>();
-    is_sendable::<Asker>();
+    is_sendable::<MonClient>();
     is_sendable::<Answer>();
 }

@@ -1,9 +1,3 @@
-pub mod Reading
-pub mod Lists
-pub mod Uses
-pub mod Known
-pub mod Premises
-pub mod Steps
-pub mod Journal
-pub mod ReadGenerations
-pub mod Viewing
+pub mod keys
+pub mod series
+pub mod login

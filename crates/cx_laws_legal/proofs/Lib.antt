@@ -1,2 +1,2 @@
-pub mod Audited
-pub mod Legal
+pub mod entered
+pub mod legal

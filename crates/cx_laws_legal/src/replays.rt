@@ -5,18 +5,18 @@ ghost use Rattle.cx_audit.specs.declared.verdicts.Verdict.{Verdict};
 ghost use Rattle.cx_audit.specs.declared.verdicts.AuditRefusal.{AuditRefusal};
 ghost use Rattle.cx_desk.specs.Held.{handlers_of};
 ghost use Rattle.cx_journal.specs.declared.premises.Broken.{Broken};
-ghost use Rattle.cx_laws_legal.specs.Written.{written};
+ghost use Rattle.cx_laws_legal.specs.legal.Written.{written};
 ghost use Rattle.cx_run.specs.Runs.{IsFoundOf};
 ghost use Rattle.cx_words.specs.Cutting.{IsShort};
 ghost use Rattle.cx_world.specs.Heads.{IsSchedule};
 
-use crate::laws::legal_laws;
+use crate::legal_laws::legal_laws;
 use cx_audit::{AuditRefusal, Verdict, audit};
 use cx_base::Blob;
 use cx_desk::Desk;
-use cx_laws_printed::have_types;
-use cx_replay::{put_report, replay};
+use cx_laws_text::have_types;
 use cx_schedule::Script;
+use cx_world::{put_report, replay};
 use std::alloc::Global;
 
 /// Replays a schedule over this desk of handlers, and audits what is written: nothing is said where the run broke a premise, and

@@ -1,2 +1,2 @@
-mod Entities
-mod Monitors
+pub mod saving
+pub mod node

@@ -4,15 +4,15 @@ use Rattle.std.specs.Prelude.{◌==◌, ◌&&◌, nat_le, cond}
 use Rattle.std.specs.List.{list_all}
 use Rattle.std.proofs.lemmas.Bool.{and_parts}
 use Rattle.std.proofs.lemmas.Bool.Decides.{nat_tests}
-use Rattle.cx_line_words.specs.declared.choices.CommandForm.{CommandForm}
-use Rattle.cx_line_words.specs.declared.choices.CommandForm.TheVariants as form
-use Rattle.cx_line_words.specs.declared.known.Known.{Known}
-use Rattle.cx_line_words.specs.declared.places.WordPlace.{WordPlace}
-use Rattle.cx_line_words.specs.declared.places.WordPlace.TheVariants as at
-use Rattle.cx_line_words.specs.Choices.{command_form_of, command_word}
-use Rattle.cx_line_words.specs.Places.{are_good, is_good, is_whole}
-use Rattle.cx_line_words.specs.Values.{Item, ServiceOf, SpellsItem, SpellsItems}
-use Rattle.cx_line_words.proofs.ChoiceLemmas.{command_form_of-is}
+use Rattle.cx_words.specs.declared.choices.CommandForm.{CommandForm}
+use Rattle.cx_words.specs.declared.choices.CommandForm.TheVariants as form
+use Rattle.cx_words.specs.declared.known.Known.{Known}
+use Rattle.cx_words.specs.declared.places.WordPlace.{WordPlace}
+use Rattle.cx_words.specs.declared.places.WordPlace.TheVariants as at
+use Rattle.cx_words.specs.lines.Choices.{command_form_of, command_word}
+use Rattle.cx_words.specs.lines.Places.{are_good, is_good, is_whole}
+use Rattle.cx_words.specs.lines.Values.{Item, ServiceOf, SpellsItem, SpellsItems}
+use Rattle.cx_words.proofs.lines.ChoiceLemmas.{command_form_of-is}
 use Rattle.cx_lines.specs.declared.commands.LineCommand.{LineCommand}
 use Rattle.cx_lines.specs.declared.commands.LineCommand.TheVariants.{Fetch, Login, Renew, Connect, Send}
 use Rattle.cx_lines.specs.Commands.{command_items, command_places, IsCommand}

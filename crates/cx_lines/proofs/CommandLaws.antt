@@ -5,11 +5,11 @@ use Rattle.std.proofs.lemmas.Bool.Decides.{nat_tests}
 use Rattle.cx_base.specs.Names.{Name}
 use Rattle.cx_base.specs.declared.kinds.EntityType.{EntityType}
 use Rattle.cx_base.specs.declared.operations.Operation.{Operation}
-use Rattle.cx_line_words.specs.declared.choices.CommandForm.{CommandForm}
-use Rattle.cx_line_words.specs.declared.choices.CommandForm.TheVariants as form
-use Rattle.cx_line_words.specs.declared.known.Known.{Known}
-use Rattle.cx_line_words.specs.Values.{Item, ClientOf, DaemonOf, ServicesOf, AccessOf, PartOf, DataOf, LossyWord, SpellsItems}
-use Rattle.cx_line_words.proofs.ValueLemmas.{Values, place_of}
+use Rattle.cx_words.specs.declared.choices.CommandForm.{CommandForm}
+use Rattle.cx_words.specs.declared.choices.CommandForm.TheVariants as form
+use Rattle.cx_words.specs.declared.known.Known.{Known}
+use Rattle.cx_words.specs.lines.Values.{Item, ClientOf, DaemonOf, ServicesOf, AccessOf, PartOf, DataOf, LossyWord, SpellsItems}
+use Rattle.cx_words.proofs.lines.ValueLemmas.{Values, place_of}
 use Rattle.cx_lines.specs.declared.commands.LineCommand.{LineCommand}
 use Rattle.cx_lines.specs.declared.commands.LineCommand.TheVariants.{Fetch, Login, Renew, Connect, Send}
 use Rattle.cx_lines.specs.Found.{SpellsIn}

@@ -1,9 +1,9 @@
 -- Why the words behind a first word have a fault.
 use Rattle.std.proofs.Common.{◌≡◌, ℕ, true, false, List, [], None, Option, Some, Result, Ok, Err, sym, ◌∙◌}
 use Rattle.std.specs.Prelude.{IfNone, IfOk, IfSome}
-use Rattle.cx_line_words.specs.declared.known.Known.{Known}
-use Rattle.cx_line_words.specs.Places.{is_whole}
-use Rattle.cx_line_words.proofs.Faultless.{faultless}
+use Rattle.cx_words.specs.declared.known.Known.{Known}
+use Rattle.cx_words.specs.lines.Places.{is_whole}
+use Rattle.cx_words.proofs.lines.Faultless.{faultless}
 use Rattle.cx_lines.specs.declared.lines.Head.{Head}
 use Rattle.cx_lines.specs.Knowing.{is_late, is_spent}
 use Rattle.cx_lines.specs.Lines.{IsFaulty, IsLine, SpellsHere, places}

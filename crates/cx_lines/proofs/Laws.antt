@@ -7,16 +7,16 @@ use Rattle.std.proofs.lemmas.Bool.Decides.{nat_tests}
 use Rattle.std.proofs.lemmas.Slice.Eq.{bytes_eq-Decides}
 use Rattle.cx_words.specs.Words.{IsReadingWord}
 use Rattle.cx_words.proofs.NumberWords.{reading_below}
-use Rattle.cx_line_words.specs.declared.choices.CommandForm.TheVariants as command
-use Rattle.cx_line_words.specs.declared.faults.FaultAt.{FaultAt}
-use Rattle.cx_line_words.specs.declared.known.Known.{Known}
-use Rattle.cx_line_words.specs.declared.places.WordPlace.TheVariants as at
-use Rattle.cx_line_words.specs.Choices.{command_form_of, command_word}
-use Rattle.cx_line_words.specs.Places.{are_good}
-use Rattle.cx_line_words.specs.Values.{Item, CommandOf, SpellsItems}
-use Rattle.cx_line_words.proofs.ChoiceLemmas.{command_form_of-is, command_form_of-word}
-use Rattle.cx_line_words.proofs.Faultless.{faultless, none_among}
-use Rattle.cx_line_words.proofs.ValueLemmas.{Values, all_good, as_many, items_back, place_of, read_items, values_in}
+use Rattle.cx_words.specs.declared.choices.CommandForm.TheVariants as command
+use Rattle.cx_words.specs.declared.faults.FaultAt.{FaultAt}
+use Rattle.cx_words.specs.declared.known.Known.{Known}
+use Rattle.cx_words.specs.declared.places.WordPlace.TheVariants as at
+use Rattle.cx_words.specs.lines.Choices.{command_form_of, command_word}
+use Rattle.cx_words.specs.lines.Places.{are_good}
+use Rattle.cx_words.specs.lines.Values.{Item, CommandOf, SpellsItems}
+use Rattle.cx_words.proofs.lines.ChoiceLemmas.{command_form_of-is, command_form_of-word}
+use Rattle.cx_words.proofs.lines.Faultless.{faultless, none_among}
+use Rattle.cx_words.proofs.lines.ValueLemmas.{Values, all_good, as_many, items_back, place_of, read_items, values_in}
 use Rattle.cx_lines.specs.declared.commands.LineCommand.{LineCommand}
 use Rattle.cx_lines.specs.declared.lines.Head.{Head}
 use Rattle.cx_lines.specs.declared.lines.Head.TheVariants as head

@@ -2,10 +2,10 @@
 use Rattle.std.proofs.Common.{◌≡◌, ℕ, false, List, [], ◌∷◌, map, length, Option, Some, None, refl, arith}
 use Rattle.std.specs.Prelude.{nat_le}
 use Rattle.std.proofs.lemmas.Bool.Decides.{nat_tests}
-use Rattle.cx_line_words.specs.declared.known.Known.{Known}
-use Rattle.cx_line_words.specs.Values.{Item, NumberOf, SideOf, BytesOf, SpellsItems}
-use Rattle.cx_line_words.proofs.ChoiceLemmas.{chosen-is}
-use Rattle.cx_line_words.proofs.ValueLemmas.{Values, place_of}
+use Rattle.cx_words.specs.declared.known.Known.{Known}
+use Rattle.cx_words.specs.lines.Values.{Item, NumberOf, SideOf, BytesOf, SpellsItems}
+use Rattle.cx_words.proofs.lines.ChoiceLemmas.{chosen-is}
+use Rattle.cx_words.proofs.lines.ValueLemmas.{Values, place_of}
 use Rattle.cx_lines.specs.declared.link_steps.LinkStep.{LinkStep}
 use Rattle.cx_lines.specs.declared.link_steps.LinkStep.TheVariants.{Carry, Lose, Inject, Again, Cut}
 use Rattle.cx_lines.specs.declared.link_steps.LinkForm.{LinkForm}

@@ -7,12 +7,12 @@ use Rattle.cx_base.specs.Names.{Name}
 use Rattle.cx_base.specs.declared.grants.Grant.{Grant}
 use Rattle.cx_lines.specs.declared.settings.SettingForm.TheVariants as form
 use Rattle.cx_lines.specs.Settings.{grant_items, pair_places, setting_places}
-use Rattle.cx_line_words.specs.declared.known.Known.{Known}
-use Rattle.cx_line_words.specs.declared.places.WordPlace.{WordPlace}
-use Rattle.cx_line_words.specs.declared.places.WordPlace.TheVariants as at
-use Rattle.cx_line_words.specs.Known.{nothing}
-use Rattle.cx_line_words.specs.Places.{are_good, is_good, is_whole}
-use Rattle.cx_line_words.specs.Values.{Item, EntityOf, ServiceOf, CapsOf, SpellsItem, SpellsItems}
+use Rattle.cx_words.specs.declared.known.Known.{Known}
+use Rattle.cx_words.specs.declared.places.WordPlace.{WordPlace}
+use Rattle.cx_words.specs.declared.places.WordPlace.TheVariants as at
+use Rattle.cx_words.specs.lines.Known.{nothing}
+use Rattle.cx_words.specs.lines.Places.{are_good, is_good, is_whole}
+use Rattle.cx_words.specs.lines.Values.{Item, EntityOf, ServiceOf, CapsOf, SpellsItem, SpellsItems}
 
 -- the places of a pair of which one word is there
 pub one_left : {A : Type 0} (f : A → List ℕ) (ps : List WordPlace) (ws : List A) → length ws < 2 → 0 < length ws → (ps ++ at.Service ∷ []) ++ at.Caps ∷ [] ≡ ps ++ pair_places (map f ws)

@@ -2,12 +2,12 @@
 use Rattle.std.specs.Prelude.{ℕ, nat_le, Bool, true, false, List, [], ◌∷◌, length, Option, if◌then◌else◌}
 use Rattle.cx_base.specs.declared.kinds.EntityType.{EntityType}
 use Rattle.cx_base.specs.declared.operations.Operation.{Operation}
-use Rattle.cx_line_words.specs.declared.choices.CommandForm.{CommandForm}
-use Rattle.cx_line_words.specs.declared.choices.CommandForm.TheVariants as form
-use Rattle.cx_line_words.specs.declared.known.Known.{Known}
-use Rattle.cx_line_words.specs.declared.places.WordPlace.{WordPlace}
-use Rattle.cx_line_words.specs.declared.places.WordPlace.TheVariants as at
-use Rattle.cx_line_words.specs.Values.{Item, ClientOf, DaemonOf, ServicesOf, AccessOf, PartOf, DataOf, LossyWord}
+use Rattle.cx_words.specs.declared.choices.CommandForm.{CommandForm}
+use Rattle.cx_words.specs.declared.choices.CommandForm.TheVariants as form
+use Rattle.cx_words.specs.declared.known.Known.{Known}
+use Rattle.cx_words.specs.declared.places.WordPlace.{WordPlace}
+use Rattle.cx_words.specs.declared.places.WordPlace.TheVariants as at
+use Rattle.cx_words.specs.lines.Values.{Item, ClientOf, DaemonOf, ServicesOf, AccessOf, PartOf, DataOf, LossyWord}
 use Rattle.cx_lines.specs.declared.commands.LineCommand.{LineCommand}
 use Rattle.cx_lines.specs.declared.commands.LineCommand.TheVariants.{Fetch, Login, Renew, Connect, Send}
 use Rattle.cx_lines.specs.Found.{Family, IsFound}

@@ -1,9 +1,9 @@
 -- What words are found to be where a form has these places and its lines these values.
 use Rattle.std.specs.Prelude.{ℕ, ◌≡◌, false, List, Option, Some, None}
-use Rattle.cx_line_words.specs.declared.known.Known.{Known}
-use Rattle.cx_line_words.specs.declared.places.WordPlace.{WordPlace}
-use Rattle.cx_line_words.specs.Places.{is_whole}
-use Rattle.cx_line_words.specs.Values.{Item, SpellsItems}
+use Rattle.cx_words.specs.declared.known.Known.{Known}
+use Rattle.cx_words.specs.declared.places.WordPlace.{WordPlace}
+use Rattle.cx_words.specs.lines.Places.{is_whole}
+use Rattle.cx_words.specs.lines.Values.{Item, SpellsItems}
 
 -- a family of lines: the places of each form, where these words stand there, the form of a line and its values
 pub record Family (F L : Type 0) : Type 0 where

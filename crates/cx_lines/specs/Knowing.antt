@@ -1,8 +1,8 @@
 -- What is known of the lines above a line, and what that says of lines that may stand once or before all others.
 use Rattle.std.specs.Prelude.{Bool, true, false, List, [], ◌∷◌, ◌++◌, fold}
-use Rattle.cx_line_words.specs.declared.known.Known.{Known}
+use Rattle.cx_words.specs.declared.known.Known.{Known}
 use Rattle.cx_base.specs.declared.nodes.NodeName.TheVariants as node
-use Rattle.cx_line_words.specs.Known.{nothing}
+use Rattle.cx_words.specs.lines.Known.{nothing}
 use Rattle.cx_lines.specs.declared.lines.Head.{Head}
 use Rattle.cx_lines.specs.declared.lines.Head.TheVariants as head
 use Rattle.cx_lines.specs.declared.lines.Line.{Line}

@@ -1,5 +1,5 @@
 -- Behind `pub use`: what crates above name through this one, and so needn't list (`checks/ways`).
-pub use Rattle.cx_line_words as cx_line_words
+pub use Rattle.cx_words as cx_words
 pub mod Commands
 pub mod Found
 pub mod Knowing

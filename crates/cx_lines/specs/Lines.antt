@@ -3,16 +3,16 @@
 use Rattle.std.specs.Prelude.{ℕ, ◌≡◌, Bool, true, false, nat_lt, List, [], ◌∷◌, map, codes, Option, Some, None, if◌then◌else◌}
 use Rattle.std.specs.Option.{option_map}
 use Rattle.std.specs.Str.{bytes_eq}
-use Rattle.cx_line_words.specs.declared.choices.CommandForm.{CommandForm}
-use Rattle.cx_line_words.specs.declared.faults.FaultAt.{FaultAt}
-use Rattle.cx_line_words.specs.declared.faults.LineFault.TheVariants.{UnknownWord}
-use Rattle.cx_line_words.specs.declared.known.Known.{Known}
-use Rattle.cx_line_words.specs.declared.places.WordPlace.{WordPlace}
-use Rattle.cx_line_words.specs.declared.places.WordPlace.TheVariants as at
-use Rattle.cx_line_words.specs.Choices.{command_form_of, command_word}
-use Rattle.cx_line_words.specs.Faults.{fault_among, fault_at}
-use Rattle.cx_line_words.specs.Places.{is_whole}
-use Rattle.cx_line_words.specs.Values.{Item, CommandOf, SpellsItems, is_life}
+use Rattle.cx_words.specs.declared.choices.CommandForm.{CommandForm}
+use Rattle.cx_words.specs.declared.faults.FaultAt.{FaultAt}
+use Rattle.cx_words.specs.declared.faults.LineFault.TheVariants.{UnknownWord}
+use Rattle.cx_words.specs.declared.known.Known.{Known}
+use Rattle.cx_words.specs.declared.places.WordPlace.{WordPlace}
+use Rattle.cx_words.specs.declared.places.WordPlace.TheVariants as at
+use Rattle.cx_words.specs.lines.Choices.{command_form_of, command_word}
+use Rattle.cx_words.specs.lines.Faults.{fault_among, fault_at}
+use Rattle.cx_words.specs.lines.Places.{is_whole}
+use Rattle.cx_words.specs.lines.Values.{Item, CommandOf, SpellsItems, is_life}
 use Rattle.cx_lines.specs.declared.commands.LineCommand.{LineCommand}
 use Rattle.cx_lines.specs.declared.lines.Head.{Head}
 use Rattle.cx_lines.specs.declared.lines.Head.TheVariants as head

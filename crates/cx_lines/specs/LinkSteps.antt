@@ -1,10 +1,10 @@
 -- Lines on links: what is carried, lost, injected, carried again and cut.
 use Rattle.std.specs.Prelude.{ℕ, nat_le, List, [], ◌∷◌, length, Option, Some, None, codes, if◌then◌else◌}
-use Rattle.cx_line_words.specs.declared.known.Known.{Known}
-use Rattle.cx_line_words.specs.declared.places.WordPlace.{WordPlace}
-use Rattle.cx_line_words.specs.declared.places.WordPlace.TheVariants as at
-use Rattle.cx_line_words.specs.Choices.{chosen}
-use Rattle.cx_line_words.specs.Values.{Item, NumberOf, SideOf, BytesOf}
+use Rattle.cx_words.specs.declared.known.Known.{Known}
+use Rattle.cx_words.specs.declared.places.WordPlace.{WordPlace}
+use Rattle.cx_words.specs.declared.places.WordPlace.TheVariants as at
+use Rattle.cx_words.specs.lines.Choices.{chosen}
+use Rattle.cx_words.specs.lines.Values.{Item, NumberOf, SideOf, BytesOf}
 use Rattle.cx_lines.specs.declared.link_steps.LinkStep.{LinkStep}
 use Rattle.cx_lines.specs.declared.link_steps.LinkStep.TheVariants.{Carry, Lose, Inject, Again, Cut}
 use Rattle.cx_lines.specs.declared.link_steps.LinkForm.{LinkForm}

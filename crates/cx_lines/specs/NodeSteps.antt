@@ -1,10 +1,10 @@
 -- Lines on clocks, nodes and saves.
 use Rattle.std.specs.Prelude.{ℕ, nat_le, List, [], ◌∷◌, length, Option, codes, if◌then◌else◌}
-use Rattle.cx_line_words.specs.declared.known.Known.{Known}
-use Rattle.cx_line_words.specs.declared.places.WordPlace.{WordPlace}
-use Rattle.cx_line_words.specs.declared.places.WordPlace.TheVariants as at
-use Rattle.cx_line_words.specs.Choices.{chosen}
-use Rattle.cx_line_words.specs.Values.{Item, ReadingOf, NumberOf, DaemonOf, NodeOf, StateOf}
+use Rattle.cx_words.specs.declared.known.Known.{Known}
+use Rattle.cx_words.specs.declared.places.WordPlace.{WordPlace}
+use Rattle.cx_words.specs.declared.places.WordPlace.TheVariants as at
+use Rattle.cx_words.specs.lines.Choices.{chosen}
+use Rattle.cx_words.specs.lines.Values.{Item, ReadingOf, NumberOf, DaemonOf, NodeOf, StateOf}
 use Rattle.cx_lines.specs.declared.node_steps.NodeStep.{NodeStep}
 use Rattle.cx_lines.specs.declared.node_steps.NodeStep.TheVariants.{Clock, ClockOf, DropSession, Tick, Restart, FailSave, Settle}
 use Rattle.cx_lines.specs.declared.node_steps.NodeForm.{NodeForm}

@@ -1,6 +1,6 @@
 -- Why the words of a line are refused.
 use Rattle.std.specs.Prelude.{ℕ, ◌≡◌, List, Some}
-use Rattle.cx_line_words.specs.declared.known.Known.{Known}
+use Rattle.cx_words.specs.declared.known.Known.{Known}
 use Rattle.cx_lines.specs.declared.refusals.LineRefusal.{LineRefusal}
 use Rattle.cx_lines.specs.declared.refusals.LineRefusal.TheVariants.{Fault, OutOfMemory}
 use Rattle.cx_lines.specs.Sights.{bad_word_of}

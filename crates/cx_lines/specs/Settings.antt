@@ -1,11 +1,11 @@
 -- Head lines, which stand before all others: the lives of secrets and tickets, the entities, the seeds of nodes, the modes of
 -- clients, and the clients that are leaked.
 use Rattle.std.specs.Prelude.{ℕ, List, [], ◌∷◌, Option, codes}
-use Rattle.cx_line_words.specs.declared.known.Known.{Known}
-use Rattle.cx_line_words.specs.declared.places.WordPlace.{WordPlace}
-use Rattle.cx_line_words.specs.declared.places.WordPlace.TheVariants as at
-use Rattle.cx_line_words.specs.Choices.{chosen}
-use Rattle.cx_line_words.specs.Values.{Item, LifeOf, NumberOf, EntityOf, ServiceOf, CapsOf, UnmodedOf, UnleakedOf, UnseededOf, ModesOf}
+use Rattle.cx_words.specs.declared.known.Known.{Known}
+use Rattle.cx_words.specs.declared.places.WordPlace.{WordPlace}
+use Rattle.cx_words.specs.declared.places.WordPlace.TheVariants as at
+use Rattle.cx_words.specs.lines.Choices.{chosen}
+use Rattle.cx_words.specs.lines.Values.{Item, LifeOf, NumberOf, EntityOf, ServiceOf, CapsOf, UnmodedOf, UnleakedOf, UnseededOf, ModesOf}
 use Rattle.cx_base.specs.declared.grants.Grant.{Grant}
 use Rattle.cx_lines.specs.declared.settings.Setting.{Setting}
 use Rattle.cx_lines.specs.declared.settings.Setting.TheVariants.{Lifetime, AuthLifetime, Entity, Seed, Modes, Leak}

@@ -1,10 +1,10 @@
 -- What stands where a line is wrong.
 use Rattle.std.specs.Prelude.{ℕ, ◌-◌, nat_lt, List, [], ◌∷◌, slice_get, Option, Some, None, if◌then◌else◌}
 use Rattle.std.specs.Option.{option_map}
-use Rattle.cx_line_words.specs.declared.faults.FaultAt.{FaultAt}
-use Rattle.cx_line_words.specs.declared.known.Known.{Known}
-use Rattle.cx_line_words.specs.declared.places.WordPlace.{WordPlace}
-use Rattle.cx_line_words.specs.Sights.{first_hint, shown_of, word_at}
+use Rattle.cx_words.specs.declared.faults.FaultAt.{FaultAt}
+use Rattle.cx_words.specs.declared.known.Known.{Known}
+use Rattle.cx_words.specs.declared.places.WordPlace.{WordPlace}
+use Rattle.cx_words.specs.lines.Sights.{first_hint, shown_of, word_at}
 use Rattle.cx_lines.specs.declared.lines.Head.{Head}
 use Rattle.cx_lines.specs.declared.sight.BadWord.{BadWord}
 use Rattle.cx_lines.specs.Lines.{fault_of, head_of, places}

@@ -1,14 +1,13 @@
 //! Lines by which a client or a daemon is told to do something.
 
 ghost use Rattle.std.specs.Prelude.{◌≡◌, ◌∷◌, [], map, IfOk};
-ghost use Rattle.cx_line_words.specs.declared.choices.CommandForm.{CommandForm};
+ghost use Rattle.cx_words.specs.declared.choices.CommandForm.{CommandForm};
 ghost use Rattle.cx_lines.specs.Commands.{command_form, command_places, IsCommand};
 ghost use Rattle.cx_lines.specs.declared.commands.LineCommand.{LineCommand};
 
 use crate::sending::{SEND_PLACES, send_of};
 use cx_base::{Duplicate, EntityName, EntityType, Items, Operation, copy_items};
-use cx_line_words::{CommandForm, Known, WordPlace, client, daemon, is_lossy};
-use cx_words::services;
+use cx_words::{CommandForm, Known, WordPlace, client, daemon, is_lossy, services};
 use std::alloc::{AllocError, Global};
 
 /// What a node is told to do.

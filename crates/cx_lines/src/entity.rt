@@ -1,17 +1,16 @@
 //! The form of entity lines.
 
 ghost use Rattle.std.specs.Prelude.{◌≡◌, ◌∷◌, [], ◌++◌, ◌&&◌, map, is_some, length, IfOk, IfSome};
-ghost use Rattle.cx_line_words.specs.Known.{nothing};
-ghost use Rattle.cx_line_words.specs.Places.{is_good};
-ghost use Rattle.cx_line_words.specs.Values.{CapsOf, ServiceOf, SpellsItem};
-ghost use Rattle.cx_line_words.specs.declared.places.WordPlace.{WordPlace};
+ghost use Rattle.cx_words.specs.lines.Known.{nothing};
+ghost use Rattle.cx_words.specs.lines.Places.{is_good};
+ghost use Rattle.cx_words.specs.lines.Values.{CapsOf, ServiceOf, SpellsItem};
+ghost use Rattle.cx_words.specs.declared.places.WordPlace.{WordPlace};
 ghost use Rattle.cx_lines.specs.Settings.{entity_places, pair_places, IsSetting};
 ghost use Rattle.cx_lines.specs.declared.settings.SettingForm.{SettingForm};
 
 use crate::settings::Setting;
 use cx_base::{Grant, Items};
-use cx_line_words::{Known, WordPlace, new_entity, new_service};
-use cx_words::caps;
+use cx_words::{Known, WordPlace, caps, new_entity, new_service};
 use std::alloc::{AllocError, Global};
 
 /// The places behind `entity`, where these words stand there.

@@ -1,7 +1,7 @@
 //! The laws of a schedule's lines.
 
 ghost use Rattle.std.specs.Prelude.{ℕ, ◌≡◌, ◌↔◌, List, None};
-ghost use Rattle.cx_line_words.specs.declared.known.Known.{Known};
+ghost use Rattle.cx_words.specs.declared.known.Known.{Known};
 ghost use Rattle.cx_lines.specs.Lines.{fault_of, Spells};
 ghost use Rattle.cx_lines.specs.declared.lines.Line.{Line};
 

@@ -6,7 +6,7 @@ ghost use Rattle.cx_lines.specs.Knowing.{is_late, is_spent, knowing, setting_kno
 use crate::lines::{Head, Line};
 use crate::settings::{Setting, SettingForm};
 use cx_base::NodeName;
-use cx_line_words::Known;
+use cx_words::Known;
 use std::alloc::{AllocError, Global};
 
 /// Adds what the line says.

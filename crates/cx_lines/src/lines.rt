@@ -9,8 +9,7 @@ use crate::node_steps::{NodeForm, NodeStep, node_places, node_step_named, node_s
 use crate::settings::{Setting, SettingForm, setting_named, setting_of, setting_places};
 use crate::sight::BadWord;
 use cx_base::Duplicate;
-use cx_line_words::{CommandForm, Known, WordPlace, command_named};
-use cx_words::is_word;
+use cx_words::{CommandForm, Known, WordPlace, command_named, is_word};
 use std::alloc::{AllocError, Global};
 
 /// A line of a schedule.

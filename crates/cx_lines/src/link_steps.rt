@@ -1,13 +1,12 @@
 //! Lines on links and on what is in flight there.
 
 ghost use Rattle.std.specs.Prelude.{◌≡◌, ◌∷◌, [], map, IfOk, IfSome};
-ghost use Rattle.cx_line_words.specs.declared.known.Known.{Known};
+ghost use Rattle.cx_words.specs.declared.known.Known.{Known};
 ghost use Rattle.cx_lines.specs.LinkSteps.{link_form, link_form_of, link_places, link_word, IsLinkStep};
 ghost use Rattle.cx_lines.specs.declared.link_steps.LinkForm.{LinkForm};
 
 use cx_base::{Blob, Duplicate};
-use cx_line_words::{Side, WordPlace, side_named};
-use cx_words::{hex, is_word, number};
+use cx_words::{Side, WordPlace, hex, is_word, number, side_named};
 use std::alloc::{AllocError, Global};
 
 /// What happens to a link. A link has its number, a side of it says from where the bytes come.

@@ -1,13 +1,14 @@
 //! Lines on clocks, nodes and saves.
 
 ghost use Rattle.std.specs.Prelude.{◌≡◌, ◌∷◌, [], map, IfOk, IfSome};
-ghost use Rattle.cx_line_words.specs.declared.known.Known.{Known};
+ghost use Rattle.cx_words.specs.declared.known.Known.{Known};
 ghost use Rattle.cx_lines.specs.NodeSteps.{node_form, node_form_of, node_places, node_step_word, IsNodeStep};
 ghost use Rattle.cx_lines.specs.declared.node_steps.NodeForm.{NodeForm};
 
 use cx_base::{Duplicate, EntityName, NodeName, Reading};
-use cx_line_words::{Known, LeftState, WordPlace, daemon, known_node, state_named};
-use cx_words::{is_word, number, reading};
+use cx_words::{
+    Known, LeftState, WordPlace, daemon, is_word, known_node, number, reading, state_named,
+};
 use std::alloc::{AllocError, Global};
 
 /// What happens to clocks, nodes and saves.

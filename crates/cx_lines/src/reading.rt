@@ -8,7 +8,7 @@ use crate::knowing::{is_late, is_spent};
 use crate::lines::{Head, Line, head_of, line_behind, places};
 use crate::refusals::LineRefusal;
 use crate::sight::described;
-use cx_line_words::{FaultAt, Known, LineFault, first_fault};
+use cx_words::{FaultAt, Known, LineFault, first_fault};
 use std::alloc::{AllocError, Global};
 
 /// The line that these words spell, where this is known of the lines above.

@@ -1,16 +1,15 @@
 //! The form of send lines.
 
 ghost use Rattle.std.specs.Prelude.{◌≡◌, ◌∷◌, [], map, is_some, IfOk, IfSome};
-ghost use Rattle.cx_line_words.specs.declared.choices.CommandForm.{CommandForm};
-ghost use Rattle.cx_line_words.specs.Known.{nothing};
-ghost use Rattle.cx_line_words.specs.Places.{are_good};
-ghost use Rattle.cx_line_words.specs.Values.{SpellsItems};
+ghost use Rattle.cx_words.specs.declared.choices.CommandForm.{CommandForm};
+ghost use Rattle.cx_words.specs.lines.Known.{nothing};
+ghost use Rattle.cx_words.specs.lines.Places.{are_good};
+ghost use Rattle.cx_words.specs.lines.Values.{SpellsItems};
 ghost use Rattle.cx_lines.specs.Commands.{operation_items, operation_places, IsCommand};
 
 use crate::commands::LineCommand;
 use cx_base::Operation;
-use cx_line_words::{Known, WordPlace, client, daemon, operation_data};
-use cx_words::{access, part};
+use cx_words::{Known, WordPlace, access, client, daemon, operation_data, part};
 use std::alloc::{AllocError, Global};
 
 /// The places of a send line.

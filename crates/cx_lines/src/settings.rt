@@ -1,14 +1,15 @@
 //! Head lines, which stand before all others.
 
 ghost use Rattle.std.specs.Prelude.{◌≡◌, ◌∷◌, [], map, IfOk, IfSome};
-ghost use Rattle.cx_line_words.specs.declared.known.Known.{Known};
+ghost use Rattle.cx_words.specs.declared.known.Known.{Known};
 ghost use Rattle.cx_lines.specs.Settings.{setting_form, setting_form_of, setting_places, setting_word, IsSetting};
 ghost use Rattle.cx_lines.specs.declared.settings.SettingForm.{SettingForm};
 
 use crate::entity::{entity_of, entity_places};
 use cx_base::{Duplicate, EntityName, Grant, Items, NodeName, copy_items};
-use cx_line_words::{Known, Modes, WordPlace, life, modes_named, unleaked, unmoded, unseeded};
-use cx_words::{is_word, number};
+use cx_words::{
+    Known, Modes, WordPlace, is_word, life, modes_named, number, unleaked, unmoded, unseeded,
+};
 use std::alloc::{AllocError, Global};
 
 /// A head line.

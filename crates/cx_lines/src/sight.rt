@@ -4,7 +4,7 @@ ghost use Rattle.std.specs.Prelude.{◌≡◌, map, IfOk};
 ghost use Rattle.cx_lines.specs.Sights.{described, form_in, place_at, takes_at};
 
 use crate::lines::{Head, head_of, places};
-use cx_line_words::{FaultAt, Hint, Shown, WordPlace, hint_in, shown_of, word_at};
+use cx_words::{FaultAt, Hint, Shown, WordPlace, hint_in, shown_of, word_at};
 use std::alloc::{AllocError, Global};
 
 /// The first fault of a line, where it is, and what stands there.

@@ -1,3 +1,4 @@
+pub mod acceptor
 pub mod Kept
 pub mod Regarding
 pub mod Standing

@@ -6,8 +6,8 @@ use Rattle.cx_rules.specs.Inputs.{Input}
 use Rattle.cx_rules.specs.Monitor.{MonitorNode}
 use Rattle.cx_rules.specs.MonitorRule.{noted}
 use Rattle.cx_rules.specs.Rows.{forgotten}
-use Rattle.cx_turns.specs.Events.{link_in}
-use Rattle.cx_turns.specs.Steps.{without_lost}
+use Rattle.cx_node.specs.steps.Events.{link_in}
+use Rattle.cx_node.specs.steps.Steps.{without_lost}
 use Rattle.cx_mon.specs.Machine.{lost}
 
 noted_stands : (m s : MonitorNode) → MonitorStandsFor m s → MonitorStandsFor (noted m) (noted s)

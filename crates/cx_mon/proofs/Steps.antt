@@ -6,10 +6,10 @@ use Rattle.cx_rules.specs.Monitor.{Monitor}
 use Rattle.cx_rules.specs.Rows.{forgotten, idles}
 use Rattle.cx_steps.specs.Nothing.{nothing}
 use Rattle.cx_steps.specs.declared.effects.Effects.{Effects}
-use Rattle.cx_acceptor.specs.Stages.{MonitorLink}
-use Rattle.cx_turns.specs.Steps.{node_of}
+use Rattle.cx_mon.specs.acceptor.Stages.{MonitorLink}
+use Rattle.cx_node.specs.steps.Steps.{node_of}
 use Rattle.cx_mon.specs.Machine.{AreHeld, IsStep}
-use Rattle.cx_turns.proofs.Steps as steps
+use Rattle.cx_node.proofs.steps.Steps as steps
 use Rattle.cx_rules.proofs.AcceptorForgets.{acceptor-forgets}
 
 pub without_held : (number : ℕ) (all links : List MonitorLink) → AreHeld all → links ≡ without_link number all → AreHeld links

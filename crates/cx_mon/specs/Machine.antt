@@ -1,15 +1,15 @@
 -- The monitor as its machine holds it.
 use Rattle.std.specs.Prelude.{List}
-use Rattle.cx_acceptor.specs.Stages.{MonitorLink}
-use Rattle.cx_turns.specs.Events.{link_in}
+use Rattle.cx_mon.specs.acceptor.Stages.{MonitorLink}
+use Rattle.cx_node.specs.steps.Events.{link_in}
 use Rattle.cx_rules.specs.Abridged.{abridged_link}
 use Rattle.cx_rules.specs.Inputs.{Input}
 use Rattle.cx_rules.specs.Monitor.{MonitorNode}
 use Rattle.cx_rules.specs.MonitorRule.{noted}
 use Rattle.cx_rules.specs.Rows.{Outcome}
 use Rattle.cx_steps.specs.declared.effects.Effects.{Effects}
-use Rattle.cx_turns.specs.Steps as steps
-use Rattle.cx_turns.specs.Steps.{without_lost}
+use Rattle.cx_node.specs.steps.Steps as steps
+use Rattle.cx_node.specs.steps.Steps.{without_lost}
 
 -- how the monitor holds its links
 abbrev pub AreHeld : List MonitorLink → Type 0

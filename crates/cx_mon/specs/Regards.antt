@@ -1,8 +1,8 @@
 -- How the monitor regards its links: by their stages alone, of which it forgets none.
 use Rattle.std.specs.Prelude.{ℕ, Option}
 use Rattle.std.specs.Option.{option_map}
-use Rattle.cx_links.specs.declared.regard.Regard.{Regard}
-use Rattle.cx_links.specs.declared.regard.Regard.TheVariants.{Stranger, Known}
+use Rattle.cx_outside.specs.declared.regard.Regard.{Regard}
+use Rattle.cx_outside.specs.declared.regard.Regard.TheVariants.{Stranger, Known}
 use Rattle.cx_rules.specs.Acceptor.{AwaitsIdent, Open}
 use Rattle.cx_rules.specs.Links.{link_of}
 use Rattle.cx_rules.specs.Monitor.{MonitorNode, MonitorStage}

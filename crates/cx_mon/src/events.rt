@@ -1,7 +1,7 @@
 //! What the monitor does at each event.
 
 ghost use Rattle.std.specs.Prelude.{◌≡◌, ◌<◌, None, IfOk, IfSome, OnErr};
-ghost use Rattle.cx_turns.specs.Events.{link_in};
+ghost use Rattle.cx_node.specs.steps.Events.{link_in};
 ghost use Rattle.cx_rotate.specs.Keeping.{IsKeptState};
 ghost use Rattle.cx_rules.specs.Inputs.{input_of};
 ghost use Rattle.cx_rules.specs.Links.{link_of, without_link};
@@ -9,17 +9,16 @@ ghost use Rattle.cx_rules.specs.MonitorRule as rule;
 ghost use Rattle.cx_rules.specs.Rows as rows;
 ghost use Rattle.cx_rules.specs.Acceptor.{AwaitsBanner};
 ghost use Rattle.cx_rules.specs.Rows.{forgotten, new_link};
-ghost use Rattle.cx_turns.specs.Steps.{node_of, without_lost};
+ghost use Rattle.cx_node.specs.steps.Steps.{node_of, without_lost};
 ghost use Rattle.cx_mon.specs.Machine.{AreHeld, IsStep, lost};
 
-use cx_acceptor::{Link, Own, greeting};
+use crate::{Link, Own, greeting};
 use cx_base::{NodeName, Reading};
 use cx_dice::Draw;
 use cx_journal::Entry;
-use cx_node::{Links, enters};
+use cx_node::{Links, Moment, enters, turn, unopened};
 use cx_rules::rule_laws;
 use cx_steps::{Effects, Event};
-use cx_turns::{Moment, turn, unopened};
 use std::alloc::{AllocError, Global};
 
 // What the monitor does at an event. What was saved last is noted before.
@@ -127,7 +126,7 @@ fn opens(
 {
     let full = links.len() >= MOST_LINKS;
     let greeted = greeting(alloc, own, at, full);
-    cx_turns::opens(alloc, links, at.number, greeted)
+    cx_node::opens(alloc, links, at.number, greeted)
 }
 
 // Bytes come on a link, if it lives.
@@ -146,7 +145,7 @@ fn comes(
     ensures room { links.new.room ≡ None }
     ensures held { AreHeld links.new.links }
 {
-    cx_turns::comes(alloc, links, number, bytes)
+    cx_node::comes(alloc, links, number, bytes)
 }
 
 // One banner or frame of what came on a link is handled, if it lives.

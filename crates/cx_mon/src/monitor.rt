@@ -6,21 +6,20 @@ ghost use Rattle.cx_rules.specs.Abridged.{MonitorStandsFor, abridged_monitor};
 ghost use Rattle.cx_rules.specs.Inputs.{input_of};
 ghost use Rattle.cx_rules.specs.Monitor.{MonitorNode};
 ghost use Rattle.cx_rules.specs.MonitorRule.{is_idle, monitor_rule, opening_monitor, unsaved};
-ghost use Rattle.cx_turns.specs.Events.{losing};
+ghost use Rattle.cx_node.specs.steps.Events.{losing};
 ghost use Rattle.cx_mon.specs.Machine.{lost};
 ghost use Rattle.cx_mon.specs.Regards.{regard_of};
 
 use crate::events::steps;
 use crate::regards::regard_at;
-use cx_acceptor::{Link, Own};
+use crate::{Link, Own};
 use cx_base::{Addr, Reading};
 use cx_dice::Draw;
 use cx_keyserver::KeyServer;
-use cx_links::Regard;
-use cx_node::{Links, loses};
+use cx_node::{Links, link_in, loses};
+use cx_outside::Regard;
 use cx_rules::forgetting_laws;
 use cx_steps::{Effects, Event};
-use cx_turns::link_in;
 use std::alloc::{AllocError, Global};
 use std::marker::Model;
 
@@ -37,7 +36,7 @@ impl Model for Monitor {
 
     ghost Value = { MonitorNode };
 
-    ghost use Rattle.cx_turns.specs.Steps.{node_of};
+    ghost use Rattle.cx_node.specs.steps.Steps.{node_of};
     ghost use Rattle.cx_mon.specs.Machine.{AreHeld};
 
     ghost view = { λ m. node_of m.own m.links.links };

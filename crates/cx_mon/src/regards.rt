@@ -1,11 +1,11 @@
 //! How the monitor regards its links.
 
 ghost use Rattle.std.specs.Prelude.{ℕ, ◌≡◌};
-ghost use Rattle.cx_acceptor.specs.Stages.{link_held};
+ghost use Rattle.cx_mon.specs.acceptor.Stages.{link_held};
 ghost use Rattle.cx_mon.specs.Regards.{regard_at};
 
-use cx_acceptor::{Link, Stage};
-use cx_links::Regard;
+use crate::{Link, Stage};
+use cx_outside::Regard;
 
 // How it regards a link.
 pub(crate) fn regard_at(link: &Link) -> Regard

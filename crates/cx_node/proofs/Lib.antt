@@ -5,3 +5,6 @@ pub mod Ranks
 pub mod Sameness
 pub mod Slots
 pub mod Wholes
+pub mod steps
+pub mod messages
+pub mod kinds

@@ -6,7 +6,7 @@ use Rattle.std.proofs.lemmas.Bool.Decides.{same_from_decides}
 use Rattle.std.proofs.lemmas.Map.Views.{Contains-from_any, list_any-from_Contains}
 use Rattle.cx_base.specs.Names.{Name, same_name}
 use Rattle.cx_base.proofs.Names.{same_name_is, same_name_self}
-use Rattle.cx_line_words.specs.Named.{is_among}
+use Rattle.cx_words.specs.lines.Named.{is_among}
 use Rattle.cx_premises.specs.Facts.{draw_fact, fact_of, key_fact, sealed_fact, signed_fact}
 use Rattle.cx_premises.specs.declared.facts.Fact.{Fact}
 use Rattle.cx_premises.specs.declared.facts.Fact.TheVariants as fact

@@ -3,7 +3,7 @@ use Rattle.std.specs.Prelude.{ℕ, ◌≡◌, ◌+◌, ◌*◌, ◌%◌, ◌^◌
 use Rattle.std.specs.Int.{w32, from_le_bytes}
 use Rattle.std.specs.List.{list_any}
 use Rattle.cx_base.specs.Names.{Name}
-use Rattle.cx_line_words.specs.Named.{is_among}
+use Rattle.cx_words.specs.lines.Named.{is_among}
 use Rattle.cx_premises.specs.declared.facts.Fact.{Fact}
 use Rattle.cx_premises.specs.declared.facts.Fact.TheVariants as fact
 use Rattle.cx_premises.specs.contracts.facts.FactPartialEq.TheImpl as fact_equality

@@ -1,10 +1,10 @@
 //! The clients whose secrets leaked.
 
 ghost use Rattle.std.specs.Prelude.{◌≡◌, IfOk};
-ghost use Rattle.cx_line_words.specs.Named.{is_among};
+ghost use Rattle.cx_words.specs.lines.Named.{is_among};
 
 use cx_base::EntityName;
-use cx_line_words::Names;
+use cx_words::Names;
 use std::alloc::{AllocError, Global};
 use std::marker::Model;
 

@@ -2,9 +2,9 @@ pub mod Abridging
 pub mod AcceptorForgets
 pub mod Affording
 pub mod AlikeRows
-pub mod AskerDrawing
-pub mod AskerForgets
-pub mod AskerWalk
+pub mod MonClientDrawing
+pub mod MonClientForgets
+pub mod MonClientWalk
 pub mod Drawing
 pub mod Fitting
 pub mod Granting

@@ -14,7 +14,7 @@ use Rattle.cx_rules.specs.Rows.{at, goes_on, refuses, Turned, Waits, Refuses, Ha
 use Rattle.cx_keyserver.specs.cx_cbc.specs.Envelope.{sealed}
 use Rattle.cx_rules.specs.Inputs.{Input, Opened, NoLink, Bytes, Turn, Gone, Look, Tick, Submit, Restart}
 use Rattle.cx_login.specs.cx_journal.specs.declared.entries.Entry.{Entry}
-use Rattle.cx_rules.proofs.AskerWalk.{IsNoTicket}
+use Rattle.cx_rules.proofs.MonClientWalk.{IsNoTicket}
 use Rattle.cx_rules.proofs.RowWalk.{EachRow}
 use Rattle.cx_rules.proofs.MonitorWalk.{MonitorWays, monitor-walk}
 use Rattle.cx_base.specs.declared.nodes.NodeName.TheVariants as node

@@ -68,7 +68,7 @@ use Rattle.cx_rules.specs.declared.verdicts.Verdict.{Verdict}
 use Rattle.cx_rules.specs.declared.verdicts.Verdict.TheVariants.{Denied, Granted}
 use Rattle.cx_rules.specs.Messages.{message_in}
 use Rattle.cx_login.specs.cx_journal.specs.declared.faults.SessionFault.TheVariants.{Gap}
-use Rattle.cx_rules.proofs.AskerWalk.{IsNoTicket}
+use Rattle.cx_rules.proofs.MonClientWalk.{IsNoTicket}
 use Rattle.cx_rules.proofs.RowWalk.{EachRow, each-turned}
 use Rattle.cx_login.specs.cx_journal.specs.declared.faults.LoginFault.TheVariants as login
 use Rattle.cx_login.specs.cx_wire.specs.declared.bodies.Request.TheVariants as asked

@@ -38,14 +38,14 @@ module _ {Pending Proven Peer : Type 0} where
   abridged_link link = abridged_at link link.stage
 
 -- a link of one that logs in, in its stage
-abbrev pub abridged_asker_at : Link connector.Stage → connector.Stage → Link connector.Stage
-abridged_asker_at link (connector.AwaitsSignature s login) = cut link (connector.AwaitsSignature s login)
-abridged_asker_at link (connector.AwaitsIdent s session) = cut link (connector.AwaitsIdent (unsigned s) session)
-abridged_asker_at link (connector.Open s requests) = cut link (connector.Open (unsigned s) requests)
-abridged_asker_at link _ = link
+abbrev pub abridged_mon_client_at : Link connector.Stage → connector.Stage → Link connector.Stage
+abridged_mon_client_at link (connector.AwaitsSignature s login) = cut link (connector.AwaitsSignature s login)
+abridged_mon_client_at link (connector.AwaitsIdent s session) = cut link (connector.AwaitsIdent (unsigned s) session)
+abridged_mon_client_at link (connector.Open s requests) = cut link (connector.Open (unsigned s) requests)
+abridged_mon_client_at link _ = link
 
-abbrev pub abridged_asker_link : Link connector.Stage → Link connector.Stage
-abridged_asker_link link = abridged_asker_at link link.stage
+abbrev pub abridged_mon_client_link : Link connector.Stage → Link connector.Stage
+abridged_mon_client_link link = abridged_mon_client_at link link.stage
 
 -- ---- a node
 

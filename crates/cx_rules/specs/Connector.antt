@@ -28,7 +28,7 @@ use Rattle.cx_login.specs.cx_wire.specs.Logins.{authenticate_layout, login_done_
 use Rattle.cx_login.specs.cx_wire.specs.declared.logins.LoginDone.{LoginDone}
 use Rattle.cx_login.specs.cx_wire.specs.declared.logins.ServerChallenge.{ServerChallenge}
 use Rattle.cx_rules.specs.Fronts.{banner_next, plain_next, secure_next}
-use Rattle.cx_rules.specs.Holdings.{Asker, Holdings, hello_gid, held_login, holds_nothing, unexpired}
+use Rattle.cx_rules.specs.Holdings.{MonClient, Holdings, hello_gid, held_login, holds_nothing, unexpired}
 use Rattle.cx_rules.specs.Payloads.{control, due, payload, whole}
 use Rattle.cx_rules.specs.Requests.{Requests, is_waiting, on_open, on_server_ident}
 use Rattle.cx_rules.specs.Rows.{Arrival, Row, Turned, at, goes_on, refuses, refuses_bytes, sends_plain, sends_secure, turned_by, unless_refused, with_opened}
@@ -52,31 +52,31 @@ pub data Stage : Type 0 where
   AwaitsIdent : Secured → List ℕ → Stage
   Open : Secured → Requests → Stage
 
-abbrev pub AskerArrival : Type 0
-AskerArrival = Arrival Asker Stage
+abbrev pub MonClientArrival : Type 0
+MonClientArrival = Arrival MonClient Stage
 
-abbrev pub AskerRow : Type 0
-AskerRow = Row Asker Stage
+abbrev pub MonClientRow : Type 0
+MonClientRow = Row MonClient Stage
 
 -- with what it holds from now on
-abbrev pub holding : AskerArrival → Holdings → AskerArrival
+abbrev pub holding : MonClientArrival → Holdings → MonClientArrival
 holding a holdings = record a { own = record a.own { holdings = holdings } }
 
 -- ---- banner, HELLO
 
 -- the peer's banner: HELLO is sent
-abbrev pub on_banner : AskerArrival → ℕ → AskerRow
+abbrev pub on_banner : MonClientArrival → ℕ → MonClientRow
 on_banner a asked = sends_plain a (AwaitsHello asked) [] (own_hello a.own.name.kind)
 
 -- AUTH_REQUEST with a LoginHello: method 2, cephx; the modes; the name, and the global id that is held
-abbrev pub login_request : Asker → Frame
-login_request asker = control 2 auth_request_layout.form (record {
+abbrev pub login_request : MonClient → Frame
+login_request mon_client = control 2 auth_request_layout.form (record {
   method = 2;
-  modes = asker.modes;
-  payload = login_hello_layout.form.text (record { name = asker.name; gid = hello_gid asker.holdings.auth asker.holdings.gid });
+  modes = mon_client.modes;
+  payload = login_hello_layout.form.text (record { name = mon_client.name; gid = hello_gid mon_client.holdings.auth mon_client.holdings.gid });
 })
 
-abbrev pub on_hello : AskerArrival → ℕ → Result Hello BytesFault → AskerRow
+abbrev pub on_hello : MonClientArrival → ℕ → Result Hello BytesFault → MonClientRow
 on_hello a asked read = unless_refused a [] read (λ hello. sends_plain a (AwaitsChallenge asked) [] (login_request a.own))
 
 -- ---- AUTH_REPLY_MORE
@@ -86,48 +86,48 @@ abbrev pub proof_made : List ℕ → ℕ → ℕ → SealEntry
 proof_made secret server client = entry.Signed (record { key = secret; kind = kind.Proof; content = to_le_bytes w64 server ++ to_le_bytes w64 client })
 
 -- one's own challenge is drawn, and the proof of both is sent
-abbrev pub proves : AskerArrival → ℕ → Result (List ℕ) BytesFault → AskerRow
+abbrev pub proves : MonClientArrival → ℕ → Result (List ℕ) BytesFault → MonClientRow
 proves a server made = unless_refused a (entry.Drawn (draw.Challenge (challenge_of a.draw)) ∷ []) made (λ bytes.
     goes_on a AwaitsDone bytes (entry.Drawn (draw.Challenge (challenge_of a.draw)) ∷ proof_made a.own.secret server (challenge_of a.draw) ∷ []))
 
 -- the challenge is answered by an Authenticate, with the ticket for AUTH that is held as old ticket while it is good
-abbrev pub on_challenge : AskerArrival → ℕ → Result ServerChallenge BytesFault → AskerRow
+abbrev pub on_challenge : MonClientArrival → ℕ → Result ServerChallenge BytesFault → MonClientRow
 on_challenge a asked read = unless_refused a [] read (λ server.
     let ask : Ask = record { secret = a.own.secret; old = unexpired a.reading a.own.holdings.auth; other_keys = asked } in
     proves a server.challenge (plain_frame (control 5 auth_request_more_layout.form
     (record { payload = authenticate_layout.form.text (authenticate ask server.challenge (challenge_of a.draw)) }))))
 
-abbrev pub on_reply_more : AskerArrival → ℕ → Result AuthReplyMore BytesFault → AskerRow
+abbrev pub on_reply_more : MonClientArrival → ℕ → Result AuthReplyMore BytesFault → MonClientRow
 on_reply_more a asked read = unless_refused a [] read (λ more. on_challenge a asked (whole server_challenge_layout.form more.payload))
 
 -- ---- AUTH_BAD_METHOD
 
 -- at the code 13 the global id and all tickets are forgotten
-abbrev pub on_denial : AskerArrival → ℕ → AskerRow
+abbrev pub on_denial : MonClientArrival → ℕ → MonClientRow
 on_denial a code = refuses (if code == 13 then holding a holds_nothing else a) (reason.Denied code) []
 
-abbrev pub on_bad_method : AskerArrival → Result (ℕ × (ℕ × (List ℕ × List ℕ))) BytesFault → AskerRow
+abbrev pub on_bad_method : MonClientArrival → Result (ℕ × (ℕ × (List ℕ × List ℕ))) BytesFault → MonClientRow
 on_bad_method a read = unless_refused a [] read (λ fields. on_denial a (kept_method fields).result)
 
 -- ---- AUTH_DONE
 
 -- AUTH_SIGNATURE is sent; the peer's has to cover all that was sent before
-abbrev pub signs : AskerArrival → Login → List SealEntry → Result SealedFrame BytesFault → AskerRow
+abbrev pub signs : MonClientArrival → Login → List SealEntry → Result SealedFrame BytesFault → MonClientRow
 signs a login opened made = unless_refused a opened made (λ sealed.
     goes_on a (AwaitsSignature (record { keys = sealed.keys; session = login.opened.auth.session; covered = a.link.sent }) login)
     sealed.bytes (opened ++ sealed.seals))
 
 -- the parts of a LoginDone were opened, each to its record, or one wasn't
-abbrev pub on_opened : AskerArrival → ℕ → List SealEntry → Option LoggedIn → AskerRow
+abbrev pub on_opened : MonClientArrival → ℕ → List SealEntry → Option LoggedIn → MonClientRow
 on_opened a gid opened None = refuses a (reason.Login Unopened) opened
 on_opened a gid opened (Some logged_in) =
     signs a (record { gid = gid; opened = logged_in }) opened
     (signed_frame (connector_keys logged_in.secret) logged_in.auth.session (take a.link.taken a.link.received))
 
-abbrev pub on_login_done : AskerArrival → ℕ → Result LoginDone BytesFault → AskerRow
+abbrev pub on_login_done : MonClientArrival → ℕ → Result LoginDone BytesFault → MonClientRow
 on_login_done a gid read = unless_refused a [] read (λ done. let unlocked = login_in a.own.secret done in on_opened a gid unlocked.seals unlocked.value)
 
-abbrev pub on_done : AskerArrival → Result AuthDone BytesFault → AskerRow
+abbrev pub on_done : MonClientArrival → Result AuthDone BytesFault → MonClientRow
 on_done a read = unless_refused a [] read (λ done.
     if not (done.mode == 2) then refuses a (reason.Login Mode) []
     else on_login_done a done.gid (whole login_done_layout.form done.payload))
@@ -135,12 +135,12 @@ on_done a read = unless_refused a [] read (λ done.
 -- ---- AUTH_SIGNATURE
 
 -- CLIENT_IDENT under a global id, with flags (1 for a lossy session) and a cookie
-abbrev pub client_ident : Asker → ℕ → ℕ → ℕ → Frame
-client_ident asker gid flags cookie = control 8 client_ident_layout.form (record {
-  addr = asker.address;
+abbrev pub client_ident : MonClient → ℕ → ℕ → ℕ → Frame
+client_ident mon_client gid flags cookie = control 8 client_ident_layout.form (record {
+  addr = mon_client.address;
   target = no_addr;
   gid = gid;
-  global_seq = asker.global_seq;
+  global_seq = mon_client.global_seq;
   supported = 0;
   required = 0;
   flags = flags;
@@ -148,39 +148,39 @@ client_ident asker gid flags cookie = control 8 client_ident_layout.form (record
 })
 
 -- the login is held, and CLIENT_IDENT is sent with a drawn cookie: the session with the monitor is lossy
-abbrev pub identifies : AskerArrival → Secured → Login → AskerRow
+abbrev pub identifies : MonClientArrival → Secured → Login → MonClientRow
 identifies a s login =
     let cookie = cookie_of a.draw in
     sends_secure (holding a (held_login a.own.holdings login.gid login.opened)) s (λ behind. AwaitsIdent behind login.opened.auth.session)
     (signature_found s ∷ entry.Drawn (draw.Cookie cookie) ∷ []) (client_ident a.own login.gid 1 cookie)
 
-abbrev pub on_signature : AskerArrival → Secured → Login → Result AuthSignature BytesFault → AskerRow
+abbrev pub on_signature : MonClientArrival → Secured → Login → Result AuthSignature BytesFault → MonClientRow
 on_signature a s login read = unless_unsigned a s read (identifies a s login)
 
 -- ---- SERVER_IDENT, IDENT_MISSING_FEATURES
 
-abbrev pub on_missing_features : AskerArrival → Result IdentMissingFeatures BytesFault → AskerRow
+abbrev pub on_missing_features : MonClientArrival → Result IdentMissingFeatures BytesFault → MonClientRow
 on_missing_features a read = unless_refused a [] read (λ missing. refuses_bytes a (Features missing.features) [])
 
 -- ---- a turn
 
-abbrev pub while_challenged : AskerArrival → ℕ → Frame → AskerRow
+abbrev pub while_challenged : MonClientArrival → ℕ → Frame → MonClientRow
 while_challenged a asked f =
     if f.tag == 3 then on_bad_method a (payload bad_method_layout.form f)
     else on_reply_more a asked (due 4 auth_reply_more_layout.form f)
 
-abbrev pub while_proved : AskerArrival → Frame → AskerRow
+abbrev pub while_proved : MonClientArrival → Frame → MonClientRow
 while_proved a f =
     if f.tag == 3 then on_bad_method a (payload bad_method_layout.form f)
     else on_done a (due 6 auth_done_layout.form f)
 
-abbrev pub while_identified : AskerArrival → Secured → List ℕ → Frame → AskerRow
+abbrev pub while_identified : MonClientArrival → Secured → List ℕ → Frame → MonClientRow
 while_identified a s session f =
     if f.tag == 10 then on_missing_features a (payload ident_missing_features_layout.form f)
     else on_server_ident Open a s session (due 9 server_ident_layout.form f)
 
 -- by the stage of the link
-abbrev pub turned_at : AskerArrival → Stage → Turned Asker Stage
+abbrev pub turned_at : MonClientArrival → Stage → Turned MonClient Stage
 turned_at a (AwaitsBanner asked) = turned_by (λ link _. on_banner (at a link) asked) (banner_next a.link)
 turned_at a (AwaitsHello asked) = turned_by (λ (link, f) _. on_hello (at a link) asked (due 1 hello_layout.form f)) (plain_next a.link)
 turned_at a (AwaitsChallenge asked) = turned_by (λ (link, f) _. while_challenged (at a link) asked f) (plain_next a.link)

@@ -61,7 +61,7 @@ modes_of false false = []
 
 -- one that logs in: its name and its secret, its address, the modes that it offers (1 crc, 2 secure), its count of connections to daemons,
 -- what it holds, and, where it is a daemon, the generations that it was told last
-pub record Asker : Type 0 where
+pub record MonClient : Type 0 where
   pub name : Name
   pub secret : List ℕ
   pub address : Addr
@@ -75,5 +75,5 @@ abbrev pub no_view : View
 no_view = record { generations = []; asked = None }
 
 -- as it is at its start
-abbrev pub afresh : Asker → Asker
-afresh asker = record asker { global_seq = 0; holdings = holds_nothing; view = no_view }
+abbrev pub afresh : MonClient → MonClient
+afresh mon_client = record mon_client { global_seq = 0; holdings = holds_nothing; view = no_view }

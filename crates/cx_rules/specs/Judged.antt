@@ -16,9 +16,9 @@ use Rattle.cx_keyserver.specs.cx_dice.specs.Draws.{challenge_of, connection_of, 
 use Rattle.cx_login.specs.cx_steps.specs.declared.seals.DrawMark.{DrawMark}
 use Rattle.cx_login.specs.cx_steps.specs.declared.seals.DrawMark.TheVariants as draw
 use Rattle.cx_rules.specs.Acceptor.{AwaitsProof, AwaitsSignature, AwaitsIdent, Open}
-use Rattle.cx_rules.specs.Connector.{AskerArrival}
+use Rattle.cx_rules.specs.Connector.{MonClientArrival}
 use Rattle.cx_rules.specs.Connector as connector
-use Rattle.cx_rules.specs.Holdings.{Asker}
+use Rattle.cx_rules.specs.Holdings.{MonClient}
 use Rattle.cx_rules.specs.Fronts.{Next, secure_next}
 use Rattle.cx_rules.specs.Inputs.{Input, Opened, Turn}
 use Rattle.cx_rules.specs.KeptStates.{changed}
@@ -144,16 +144,16 @@ LogsTurn a (Refuses why opened) = Unit {0}
 LogsTurn a (Handles row) = LogsLink a row.seals row.link
 
 -- so does one at a connector: the challenge of its proof, and the cookie of its CLIENT_IDENT
-abbrev pub AskerLogsStage : AskerArrival → List SealEntry → connector.Stage → Type 0
-AskerLogsStage a seals connector.AwaitsDone = LogsDraw (draw.Challenge (challenge_of a.draw)) seals
-AskerLogsStage a seals (connector.AwaitsIdent s session) = LogsDraw (draw.Cookie (cookie_of a.draw)) seals
-AskerLogsStage a seals _ = Unit {0}
+abbrev pub MonClientLogsStage : MonClientArrival → List SealEntry → connector.Stage → Type 0
+MonClientLogsStage a seals connector.AwaitsDone = LogsDraw (draw.Challenge (challenge_of a.draw)) seals
+MonClientLogsStage a seals (connector.AwaitsIdent s session) = LogsDraw (draw.Cookie (cookie_of a.draw)) seals
+MonClientLogsStage a seals _ = Unit {0}
 
-abbrev pub AskerLogsLink : AskerArrival → List SealEntry → Option (Link connector.Stage) → Type 0
-AskerLogsLink a seals (Some link) = AskerLogsStage a seals link.stage
-AskerLogsLink a seals None = Unit {0}
+abbrev pub MonClientLogsLink : MonClientArrival → List SealEntry → Option (Link connector.Stage) → Type 0
+MonClientLogsLink a seals (Some link) = MonClientLogsStage a seals link.stage
+MonClientLogsLink a seals None = Unit {0}
 
-abbrev pub AskerLogsTurn : AskerArrival → Turned Asker connector.Stage → Type 0
-AskerLogsTurn a Waits = Unit {0}
-AskerLogsTurn a (Refuses why opened) = Unit {0}
-AskerLogsTurn a (Handles row) = AskerLogsLink a row.seals row.link
+abbrev pub MonClientLogsTurn : MonClientArrival → Turned MonClient connector.Stage → Type 0
+MonClientLogsTurn a Waits = Unit {0}
+MonClientLogsTurn a (Refuses why opened) = Unit {0}
+MonClientLogsTurn a (Handles row) = MonClientLogsLink a row.seals row.link

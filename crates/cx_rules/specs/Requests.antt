@@ -27,7 +27,7 @@ use Rattle.cx_login.specs.cx_wire.specs.declared.bodies.Reply.{Reply}
 use Rattle.cx_login.specs.cx_wire.specs.declared.bodies.Reply.TheVariants as given
 use Rattle.cx_login.specs.cx_wire.specs.declared.bodies.Request.{Request}
 use Rattle.cx_login.specs.cx_wire.specs.declared.bodies.Request.TheVariants as asked
-use Rattle.cx_rules.specs.Holdings.{Asker, put_tickets}
+use Rattle.cx_rules.specs.Holdings.{MonClient, put_tickets}
 use Rattle.cx_rules.specs.Links.{Link}
 use Rattle.cx_rules.specs.Messages.{Message, body_as, message, message_in, on_upkeep_or}
 use Rattle.cx_rules.specs.Rows.{Arrival, Row, goes_on, refuses, unless_refused}
@@ -142,12 +142,12 @@ behind_reply r = record r { waiting = later r.waiting }
 -- ---- what a reply changes
 
 -- each ticket stands in place of the older one of its service
-abbrev pub with_tickets : Asker → List Held → Asker
-with_tickets asker held = record asker { holdings = put_tickets asker.holdings held }
+abbrev pub with_tickets : MonClient → List Held → MonClient
+with_tickets mon_client held = record mon_client { holdings = put_tickets mon_client.holdings held }
 
 -- the generations are the view, with the reading at which they were asked for
-abbrev pub with_view : Asker → ℕ → List Generation → Asker
-with_view asker reading generations = record asker { view = record { generations = generations; asked = Some reading } }
+abbrev pub with_view : MonClient → ℕ → List Generation → MonClient
+with_view mon_client reading generations = record mon_client { view = record { generations = generations; asked = Some reading } }
 
 abbrev pub fetched_entry : Name → ℕ → List Generation → Entry
 fetched_entry daemon reading generations = entry.Fetched (record { daemon = daemon; asked = reading; generations = generations })
@@ -156,44 +156,44 @@ fetched_entry daemon reading generations = entry.Fetched (record { daemon = daem
 
 module _ {Stage : Type 0} where
   -- with another own
-  abbrev pub having : Arrival Asker Stage → Asker → Arrival Asker Stage
-  having a asker = record a { own = asker }
+  abbrev pub having : Arrival MonClient Stage → MonClient → Arrival MonClient Stage
+  having a mon_client = record a { own = mon_client }
 
   -- a request is sent; where it can't be, the link is refused
-  abbrev pub sends_request : (Secured → Requests → Stage) → Arrival Asker Stage → Secured → Requests → Want → Result SealedFrame Reason → Row Asker Stage
+  abbrev pub sends_request : (Secured → Requests → Stage) → Arrival MonClient Stage → Secured → Requests → Want → Result SealedFrame Reason → Row MonClient Stage
   sends_request open_with a s r want (Ok sealed) = goes_on a (open_with (under s sealed.keys) (behind_request r want)) sealed.bytes sealed.seals
   sends_request open_with a s r want (Err why) = refuses a why []
 
   -- tickets are asked for, by the sum of their services
-  abbrev pub asks_tickets : (Secured → Requests → Stage) → Arrival Asker Stage → Secured → Requests → ℕ → Row Asker Stage
+  abbrev pub asks_tickets : (Secured → Requests → Stage) → Arrival MonClient Stage → Secured → Requests → ℕ → Row MonClient Stage
   asks_tickets open_with a s r services = sends_request open_with a s r Tickets (sealed_request s.keys r (asked.Tickets services))
 
   -- a daemon asks for the generations of its own type, at this reading
-  abbrev pub asks_rotating : (Secured → Requests → Stage) → Arrival Asker Stage → Secured → Requests → Row Asker Stage
+  abbrev pub asks_rotating : (Secured → Requests → Stage) → Arrival MonClient Stage → Secured → Requests → Row MonClient Stage
   asks_rotating open_with a s r = sends_request open_with a s r (Rotating a.reading) (sealed_request s.keys r asked.Rotating)
 
   -- the link is open; a daemon, which opens one in order to fetch, asks at once
-  abbrev pub opens_to : (Secured → Requests → Stage) → Arrival Asker Stage → Secured → Requests → Row Asker Stage
+  abbrev pub opens_to : (Secured → Requests → Stage) → Arrival MonClient Stage → Secured → Requests → Row MonClient Stage
   opens_to open_with a s r =
       if is_daemon_type a.own.name.kind then asks_rotating open_with a s r else goes_on a (open_with s r) [] []
 
   -- SERVER_IDENT, on a link whose ticket for AUTH has this session key
-  abbrev pub on_server_ident : (Secured → Requests → Stage) → Arrival Asker Stage → Secured → List ℕ → Result ServerIdent BytesFault → Row Asker Stage
+  abbrev pub on_server_ident : (Secured → Requests → Stage) → Arrival MonClient Stage → Secured → List ℕ → Result ServerIdent BytesFault → Row MonClient Stage
   on_server_ident open_with a s session read = unless_refused a [] read (λ ident. opens_to open_with a s (no_requests session))
 
   -- message 18: the tickets are held, or the generations become the view, and that they were fetched is entered
-  abbrev pub takes : (Secured → Requests → Stage) → Arrival Asker Stage → Secured → Requests → Taken → Row Asker Stage
+  abbrev pub takes : (Secured → Requests → Stage) → Arrival MonClient Stage → Secured → Requests → Taken → Row MonClient Stage
   takes open_with a s r (Refuses why opened) = refuses a why opened
   takes open_with a s r (Holds held opened) = goes_on (having a (with_tickets a.own held)) (open_with s (behind_reply r)) [] opened
   takes open_with a s r (Views reading generations opened) =
       record (goes_on (having a (with_view a.own reading generations)) (open_with s (behind_reply r)) [] opened)
       { entries = fetched_entry a.own.name reading generations ∷ [] }
 
-  abbrev pub on_reply : (Secured → Requests → Stage) → Arrival Asker Stage → Secured → Requests → Frame → Row Asker Stage
+  abbrev pub on_reply : (Secured → Requests → Stage) → Arrival MonClient Stage → Secured → Requests → Frame → Row MonClient Stage
   on_reply open_with a s r f = takes open_with a s r (taken a.own.secret r f)
 
   -- a frame on an open link: a keepalive, or a reply; no other is due
-  abbrev pub on_open : (Secured → Requests → Stage) → Arrival Asker Stage → Secured → Requests → Frame → Row Asker Stage
+  abbrev pub on_open : (Secured → Requests → Stage) → Arrival MonClient Stage → Secured → Requests → Frame → Row MonClient Stage
   on_open open_with a s r f = on_upkeep_or (on_reply open_with a s r) a s (λ behind. open_with behind r) f
 
 -- ---- the link on which one asks

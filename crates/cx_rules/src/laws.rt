@@ -13,9 +13,9 @@ ghost use Rattle.cx_login.specs.cx_wire.specs.declared.logins.LoginHello.{LoginH
 ghost use Rattle.cx_rules.specs.Abridged.{MonitorStandsFor, abridged_monitor};
 ghost use Rattle.cx_rules.specs.Answering.{AreGenerationsDue, AreTicketsDue, GivesChallenge, GivesGenerations, GivesLogin, GivesTickets, HearsHello, HearsProof, HearsRequest, IsDue, RotatesToCurrent, RotatesToThree};
 ghost use Rattle.cx_rules.specs.Connector as connector;
-ghost use Rattle.cx_rules.specs.Connector.{AskerArrival};
+ghost use Rattle.cx_rules.specs.Connector.{MonClientArrival};
 ghost use Rattle.cx_rules.specs.Inputs.{Input, Turn};
-ghost use Rattle.cx_rules.specs.Judged.{AskerLogsTurn, IsJudged, LogsTurn, NamesLinks};
+ghost use Rattle.cx_rules.specs.Judged.{MonClientLogsTurn, IsJudged, LogsTurn, NamesLinks};
 ghost use Rattle.cx_rules.specs.Monitor.{MonitorArrival, MonitorNode, Offered};
 ghost use Rattle.cx_rules.specs.MonitorRule.{monitor_rule, noted, opening_monitor, turned_at, unsaved};
 ghost use Rattle.cx_rules.specs.Rows.{forgotten};
@@ -29,7 +29,7 @@ pub fn rule_laws()
     ensures monitor_links { (m : MonitorNode) (input : Input) (reading : ℕ) (draw : List ℕ) → NamesLinks m input (monitor_rule m input reading draw).out }
     // What a turn draws is logged.
     ensures monitor_draws { (a : MonitorArrival) → LogsTurn a (turned_at a a.link.stage) }
-    ensures asker_draws { (a : AskerArrival) → AskerLogsTurn a (connector.turned_at a a.link.stage) }
+    ensures mon_client_draws { (a : MonClientArrival) → MonClientLogsTurn a (connector.turned_at a a.link.stage) }
 {}
 
 /// The monitor answers: what is due is given at the turn of the link on which it is asked for, whatever the state of the monitor, the reading and

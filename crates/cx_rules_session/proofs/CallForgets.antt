@@ -49,7 +49,7 @@ use Rattle.cx_rules_session.specs.Forgets.{abridged_call_at, abridged_call_link}
 use Rattle.cx_rules_session.specs.Lossy.{lossy_flags}
 use Rattle.cx_rules_session.specs.Presenter.{CallArrival, CallRow, CallStage, AwaitsBanner, AwaitsHello, AwaitsChallenge, AwaitsDone, AwaitsSignature, AwaitsIdent, AwaitsReconnect, Open, OperationEnd, acknowledges, agrees, answered_entry, answers_challenge, callee_of, counting, end_in, first_frame, goes_on_in, identifies, holding_session, on_ack, on_answer, on_answer_or_ack, on_authorize_reply, on_bad_method, on_banner, on_challenge, on_done, on_hello, on_missing_features, on_reconnect_ok, on_reply_more, on_reset, on_retry, on_retry_global, on_server_ident, on_signature, on_signed, on_unlocked, presented, presents, reconnects, resets, retries, retries_global, second_frame, signs, taken_up, takes_up, turned_at, while_answered, while_challenged, while_identified, while_reconnecting}
 use Rattle.cx_rules_session.specs.Sessions.{Called, Callee, HeldSession, acknowledged_up_to, held_gid, new_session, session_reconnect, waiting_messages}
-use Rattle.cx_rules_session.proofs.GuestForgets.{holding-within}
+use Rattle.cx_rules_session.proofs.IncomingForgets.{holding-within}
 use Rattle.cx_rules_session.proofs.KindsAlike.{entered-before-alike, refused-before-alike}
 
 -- ---- a link
@@ -121,11 +121,11 @@ callee-same l (Open s callee cookie) = refl
 
 presents-within : (a : CallArrival) (callee : Callee) (p : Presented) → IsWithin a.link → RowWithin (presents a callee p)
 presents-within a callee p w =
-    holding-within a (AwaitsChallenge callee p) (Drawn (draw.Nonce p.nonce) ∷ []) (session_sealed p.held.session (authorize_content p.nonce None) ∷ []) (first_frame a.own.asker p) w
+    holding-within a (AwaitsChallenge callee p) (Drawn (draw.Nonce p.nonce) ∷ []) (session_sealed p.held.session (authorize_content p.nonce None) ∷ []) (first_frame a.own.mon_client p) w
 
 hello-within : (a : CallArrival) (called : Called) (hello : Result Hello BytesFault) → IsWithin a.link → RowWithin (on_hello a called hello)
 hello-within a called (Err why) w = tt
-hello-within a called (Ok hello) w = presents-within a called.callee (presented called a.own.asker (challenge_of a.draw)) w
+hello-within a called (Ok hello) w = presents-within a called.callee (presented called a.own.mon_client (challenge_of a.draw)) w
 
 answers-within : (a : CallArrival) (callee : Callee) (p : Presented) (opened : List SealEntry) (value : Option AuthorizeChallenge) → IsWithin a.link
     → RowWithin (answers_challenge a callee p opened value)
@@ -212,7 +212,7 @@ identifies-alike : (a : CallArrival) (l : Link CallStage) (s : Secured) (x y : L
 identifies-alike a l s x y callee before e w =
     let cookie : ℕ = cookie_of a.draw in
     sent-alike a l s x y (λ behind. AwaitsIdent behind callee cookie) (before ++ Drawn (draw.Cookie cookie) ∷ [])
-    (client_ident a.own.asker (held_gid a.own.asker.holdings) (lossy_flags callee.lossy) cookie) e w (λ z k. refl)
+    (client_ident a.own.mon_client (held_gid a.own.mon_client.holdings) (lossy_flags callee.lossy) cookie) e w (λ z k. refl)
 
 resets-alike : (a : CallArrival) (l : Link CallStage) (s : Secured) (x y : List ℕ) (callee : Callee) (before : List SealEntry) → SameAhead l a.link → IsWithin a.link
     → Alike abridged_call_link (resets (at a l) (resigned s x y) callee before) (resets a s callee before)
@@ -224,7 +224,7 @@ resets-alike a l s x y callee before e w =
 reconnects-alike : (a : CallArrival) (l : Link CallStage) (s : Secured) (x y : List ℕ) (callee : Callee) (before : List SealEntry) (session : HeldSession) → SameAhead l a.link → IsWithin a.link
     → Alike abridged_call_link (reconnects (at a l) (resigned s x y) callee before session) (reconnects a s callee before session)
 reconnects-alike a l s x y callee before session e w =
-    sent-alike (holding_session a (Some session)) l s x y (λ behind. AwaitsReconnect behind callee session.client_cookie) before (session_reconnect a.own.asker session) e w (λ z k. refl)
+    sent-alike (holding_session a (Some session)) l s x y (λ behind. AwaitsReconnect behind callee session.client_cookie) before (session_reconnect a.own.mon_client session) e w (λ z k. refl)
 
 takes_up-alike : (a : CallArrival) (l : Link CallStage) (s : Secured) (x y : List ℕ) (callee : Callee) (before : List SealEntry) (session : HeldSession) → SameAhead l a.link → IsWithin a.link
     → Alike abridged_call_link (takes_up (at a l) (resigned s x y) callee before session) (takes_up a s callee before session)
@@ -361,7 +361,7 @@ answer-alike : (a : CallArrival) (l : Link CallStage) (s : Secured) (callee : Ca
     → Alike abridged_call_link (on_answer (at a l) (unsigned s) callee cookie read) (on_answer a s callee cookie read)
 answer-alike a l s callee cookie (Err why) e w = refuses-alike abridged_call_link a l (reason.Bytes why) [] e.number
 answer-alike a l s callee cookie (Ok end) e w =
-    entered-before-alike abridged_call_link (answered_entry a.own.asker callee cookie end) (goes_on (at a l) (Open (unsigned s) callee cookie) [] []) (goes_on a (Open s callee cookie) [] [])
+    entered-before-alike abridged_call_link (answered_entry a.own.mon_client callee cookie end) (goes_on (at a l) (Open (unsigned s) callee cookie) [] []) (goes_on a (Open s callee cookie) [] [])
     (opens-alike a l s callee cookie [] [] e w)
 
 acknowledges-alike : (a : CallArrival) (l : Link CallStage) (s : Secured) (callee : Callee) (cookie seq : ℕ) (session : Option HeldSession) → SameAhead l a.link → IsWithin a.link
@@ -405,7 +405,7 @@ pub call-turned-alike : (a : CallArrival) (stage : CallStage) → IsWithin a.lin
 call-turned-alike a (AwaitsBanner called) w =
     let k : Link CallStage = record a.link { stage = AwaitsBanner called } in
     same-turn abridged_call_link (turned_at (at a k) (AwaitsBanner called))
-    (banner-turn (at a k) (λ b. on_banner b called) w (λ l v. plain_sent-within (at a l) (AwaitsHello called) [] (plain_frame (own_hello a.own.asker.name.kind)) v))
+    (banner-turn (at a k) (λ b. on_banner b called) w (λ l v. plain_sent-within (at a l) (AwaitsHello called) [] (plain_frame (own_hello a.own.mon_client.name.kind)) v))
 call-turned-alike a (AwaitsHello called) w =
     let k : Link CallStage = record a.link { stage = AwaitsHello called } in
     same-turn abridged_call_link (turned_at (at a k) (AwaitsHello called))

@@ -18,11 +18,11 @@ use Rattle.cx_rules.specs.cx_steps.specs.declared.events.Command.TheVariants as 
 use Rattle.cx_rules.specs.cx_steps.specs.declared.events.Peer.{Peer}
 use Rattle.cx_rules.specs.cx_steps.specs.declared.events.Peer.TheVariants as peer
 use Rattle.cx_authorize.specs.cx_wire.specs.declared.bodies.Request.TheVariants as asked
-use Rattle.cx_rules.specs.Abridged.{IsWithin, abridged_asker_link, abridged_link, unsigned}
+use Rattle.cx_rules.specs.Abridged.{IsWithin, abridged_mon_client_link, abridged_link, unsigned}
 use Rattle.cx_rules.specs.Acceptor as acceptor
 use Rattle.cx_rules.specs.Connector as connector
 use Rattle.cx_rules.specs.Greetings.{own_banner}
-use Rattle.cx_rules.specs.Holdings.{Asker}
+use Rattle.cx_rules.specs.Holdings.{MonClient}
 use Rattle.cx_rules.specs.Inputs.{Input, Opened, NoLink, Bytes, Turn, Gone, Look, Tick, Submit, Restart}
 use Rattle.cx_rules.specs.Links.{Link, link_of}
 use Rattle.cx_rules.specs.Requests.{Requests, asks_rotating, first_open, is_outdated, sealed_request}
@@ -32,39 +32,39 @@ use Rattle.cx_rules.specs.declared.requests.Want.TheVariants.{Rotating}
 use Rattle.cx_rules.proofs.Abridging.{Agree, Forgets, carried-alike, fed-agree, found-within, gone-held, gone-stands, idles-agree, link_of_map, node-twice, without-within}
 use Rattle.cx_rules.proofs.AcceptorForgets.{acceptor-forgets}
 use Rattle.cx_rules.proofs.AlikeRows.{SameAhead, turns-agree}
-use Rattle.cx_rules.proofs.AskerForgets.{asker-forgets, turned-alike}
+use Rattle.cx_rules.proofs.MonClientForgets.{mon_client-forgets, turned-alike}
 use Rattle.cx_rules_session.specs.Asks.{Finished, Asking}
-use Rattle.cx_rules_session.specs.DaemonRule.{Daemon, DaemonNode, DaemonStage, AsAcceptor, AsConnector, DaemonState, asking_open, book_after, book_behind, daemon_rule, daemon_step, daemon_told, ended_entry, fetches, fetches_on, gone, gone_by_kind, hosts, is_fetching, is_for_fetch, is_idle, is_in, is_older, loses, lossy_gone, me, moved_to, on_dropped, open_to_ask, opening_daemon, opens, opens_guest, opens_own, book_reply, shut_where, submits, ticks, turn, turned_at, undialled, unreached, with_asker}
+use Rattle.cx_rules_session.specs.DaemonRule.{Daemon, DaemonNode, DaemonStage, AsAcceptor, AsConnector, DaemonState, asking_open, book_after, book_behind, daemon_rule, daemon_step, daemon_told, ended_entry, fetches, fetches_on, gone, gone_by_kind, hosts, is_fetching, is_for_fetch, is_idle, is_in, is_older, loses, lossy_gone, me, moved_to, on_dropped, open_to_ask, opening_daemon, opens, opens_incoming, opens_own, book_reply, shut_where, submits, ticks, turn, turned_at, undialled, unreached, with_mon_client}
 use Rattle.cx_rules_session.specs.Forgets.{AreSameDaemon, AskAlike, DaemonNodeStandsFor, DaemonStandsFor, abridged_daemon, abridged_daemon_at, abridged_daemon_link, abridged_state}
-use Rattle.cx_rules_session.specs.Guests.{GuestStage, Served}
-use Rattle.cx_rules_session.specs.Hosting.{Hosted, guest_turned}
+use Rattle.cx_rules_session.specs.IncomingLinks.{IncomingStage, Served}
+use Rattle.cx_rules_session.specs.Hosting.{Hosted, incoming_turned}
 use Rattle.cx_rules_session.specs.Kinds.{in_stage, turn_of_kind}
 use Rattle.cx_rules_session.proofs.AskingAlike.{answered-alike, asks_map-alike, related-alike, with_book-alike}
-use Rattle.cx_rules_session.proofs.GuestForgets.{AreSameHosted, guest-turned-alike}
+use Rattle.cx_rules_session.proofs.IncomingForgets.{AreSameHosted, incoming-turned-alike}
 use Rattle.cx_rules_session.proofs.KindsAlike.{comes-of-kind, cut_found, cut_kept, first-open-cut, first-open-within, left-within, lifted-alike, links-left, list_any-map, number-of-kind, numbers-picked, request-alike, sends-of-kind, turn-of-kind-alike, twice-of-kind}
 
 -- ---- a link
 
 number-of : (l : Link DaemonStage) (stage : DaemonStage) → (abridged_daemon_at l stage).number ≡ l.number
 number-of l (AsAcceptor stage) = number-of-kind AsAcceptor abridged_link abridged_daemon_link acceptor-forgets (λ k. refl) (in_stage l stage)
-number-of l (AsConnector stage) = number-of-kind AsConnector abridged_asker_link abridged_daemon_link asker-forgets (λ k. refl) (in_stage l stage)
+number-of l (AsConnector stage) = number-of-kind AsConnector abridged_mon_client_link abridged_daemon_link mon_client-forgets (λ k. refl) (in_stage l stage)
 
 twice-of : (l : Link DaemonStage) (stage : DaemonStage)
     → (let k : Link DaemonStage = record l { stage = stage } in abridged_daemon_link (abridged_daemon_link k)) ≡ abridged_daemon_link (record l { stage = stage })
 twice-of l (AsAcceptor stage) = twice-of-kind AsAcceptor abridged_link abridged_daemon_link acceptor-forgets (λ k. refl) (in_stage l stage)
-twice-of l (AsConnector stage) = twice-of-kind AsConnector abridged_asker_link abridged_daemon_link asker-forgets (λ k. refl) (in_stage l stage)
+twice-of l (AsConnector stage) = twice-of-kind AsConnector abridged_mon_client_link abridged_daemon_link mon_client-forgets (λ k. refl) (in_stage l stage)
 
 sends-of : (l : Link DaemonStage) (stage : DaemonStage) (bytes : List ℕ)
     → (let k : Link DaemonStage = abridged_daemon_link (record l { stage = stage }) in abridged_daemon_link (record k { sent = k.sent ++ bytes }))
     ≡ abridged_daemon_link (record l { sent = l.sent ++ bytes; stage = stage })
 sends-of l (AsAcceptor stage) bytes = sends-of-kind AsAcceptor abridged_link abridged_daemon_link acceptor-forgets (λ k. refl) (in_stage l stage) bytes
-sends-of l (AsConnector stage) bytes = sends-of-kind AsConnector abridged_asker_link abridged_daemon_link asker-forgets (λ k. refl) (in_stage l stage) bytes
+sends-of l (AsConnector stage) bytes = sends-of-kind AsConnector abridged_mon_client_link abridged_daemon_link mon_client-forgets (λ k. refl) (in_stage l stage) bytes
 
 comes-of : (l : Link DaemonStage) (stage : DaemonStage) (bytes : List ℕ) → IsWithin l
     → (let k : Link DaemonStage = abridged_daemon_link (record l { stage = stage }) in abridged_daemon_link (record k { received = k.received ++ bytes }))
     ≡ abridged_daemon_link (record l { received = l.received ++ bytes; stage = stage })
 comes-of l (AsAcceptor stage) bytes w = comes-of-kind AsAcceptor abridged_link abridged_daemon_link acceptor-forgets (λ k. refl) (in_stage l stage) bytes w
-comes-of l (AsConnector stage) bytes w = comes-of-kind AsConnector abridged_asker_link abridged_daemon_link asker-forgets (λ k. refl) (in_stage l stage) bytes w
+comes-of l (AsConnector stage) bytes w = comes-of-kind AsConnector abridged_mon_client_link abridged_daemon_link mon_client-forgets (λ k. refl) (in_stage l stage) bytes w
 
 pub daemon-forgets-links : Forgets abridged_daemon_link
 daemon-forgets-links = record {
@@ -173,11 +173,11 @@ moved-agree n m moved other e f o p agree =
 hosts-agree : (d : DaemonNode) (a : Arrival Daemon DaemonStage) (l : Link DaemonStage) → l.number ≡ a.link.number → AllByRecursion IsWithin d.links
     → (x y : Hosted) → AreSameHosted x y → DaemonsAgree (hosts (abridged_daemon d) (at a l) x) (hosts d a y)
 hosts-agree d a l e h x y same =
-    let t : Turned Daemon DaemonStage = turn_of_kind (with_asker d.own) AsAcceptor x.turned in
-    let u : Turned Daemon DaemonStage = turn_of_kind (with_asker d.own) AsAcceptor y.turned in
+    let t : Turned Daemon DaemonStage = turn_of_kind (with_mon_client d.own) AsAcceptor x.turned in
+    let u : Turned Daemon DaemonStage = turn_of_kind (with_mon_client d.own) AsAcceptor y.turned in
     moved-agree l.number a.link.number x.moved y.moved e same.1 (turns (abridged_daemon d) (at a l) t) (turns d a u)
     (turns-agree abridged_daemon_link daemon-forgets-links d a l t u e h
-    (turn-of-kind-alike (with_asker d.own) AsAcceptor abridged_link abridged_daemon_link (λ k. refl) x.turned y.turned same.0))
+    (turn-of-kind-alike (with_mon_client d.own) AsAcceptor abridged_link abridged_daemon_link (λ k. refl) x.turned y.turned same.0))
 
 -- on a link in this stage
 abbrev pub TurnsAgree : Handlers → DaemonNode → ℕ → List ℕ → Link DaemonStage → DaemonStage → Type 0
@@ -190,26 +190,26 @@ TurnsAgree handlers d reading draw link stage =
 turned-agree : (handlers : Handlers) (d : DaemonNode) (reading : ℕ) (draw : List ℕ) (link : Link DaemonStage) (stage : DaemonStage) → AllByRecursion IsWithin d.links
     → IsWithin link → TurnsAgree handlers d reading draw link stage
 turned-agree handlers d reading draw link (AsAcceptor stage) h w =
-    let g : Link GuestStage = in_stage link stage in
+    let g : Link IncomingStage = in_stage link stage in
     let k : Link DaemonStage = record link { stage = AsAcceptor stage } in
     let l : Link DaemonStage = abridged_daemon_link k in
     let a : Arrival Daemon DaemonStage = arrival (me d.own) d.own k reading draw in
     asks_map-alike AreSameHosted DaemonsAgree (hosts (abridged_daemon d) (at a l)) (hosts d a) (hosts-agree d a l (daemon-forgets-links.number k) h)
-    (guest_turned handlers (arrival (me d.own) d.own.asker (abridged_link g) reading draw) (abridged_link g).stage)
-    (guest_turned handlers (arrival (me d.own) d.own.asker g reading draw) stage)
-    (guest-turned-alike handlers (arrival (me d.own) d.own.asker g reading draw) stage w)
+    (incoming_turned handlers (arrival (me d.own) d.own.mon_client (abridged_link g) reading draw) (abridged_link g).stage)
+    (incoming_turned handlers (arrival (me d.own) d.own.mon_client g reading draw) stage)
+    (incoming-turned-alike handlers (arrival (me d.own) d.own.mon_client g reading draw) stage w)
 turned-agree handlers d reading draw link (AsConnector stage) h w =
     let g : Link connector.Stage = in_stage link stage in
     let k : Link DaemonStage = record link { stage = AsConnector stage } in
     let l : Link DaemonStage = abridged_daemon_link k in
     let a : Arrival Daemon DaemonStage = arrival (me d.own) d.own k reading draw in
-    let b : Arrival Asker connector.Stage = arrival (me d.own) d.own.asker g reading draw in
-    let c : Link connector.Stage = abridged_asker_link g in
-    let t : Turned Asker connector.Stage = connector.turned_at (at b c) c.stage in
-    let u : Turned Asker connector.Stage = connector.turned_at b stage in
-    turns-agree abridged_daemon_link daemon-forgets-links d a l (turn_of_kind (with_asker d.own) AsConnector t) (turn_of_kind (with_asker d.own) AsConnector u)
+    let b : Arrival MonClient connector.Stage = arrival (me d.own) d.own.mon_client g reading draw in
+    let c : Link connector.Stage = abridged_mon_client_link g in
+    let t : Turned MonClient connector.Stage = connector.turned_at (at b c) c.stage in
+    let u : Turned MonClient connector.Stage = connector.turned_at b stage in
+    turns-agree abridged_daemon_link daemon-forgets-links d a l (turn_of_kind (with_mon_client d.own) AsConnector t) (turn_of_kind (with_mon_client d.own) AsConnector u)
     (daemon-forgets-links.number k) h
-    (turn-of-kind-alike (with_asker d.own) AsConnector abridged_asker_link abridged_daemon_link (λ x. refl) t u (turned-alike b stage w))
+    (turn-of-kind-alike (with_mon_client d.own) AsConnector abridged_mon_client_link abridged_daemon_link (λ x. refl) t u (turned-alike b stage w))
 
 turn-agrees : (handlers : Handlers) (d : DaemonNode) (reading : ℕ) (draw : List ℕ) (found : Option (Link DaemonStage)) → AllByRecursion IsWithin d.links → IfSome found IsWithin
     → AskAlike DaemonsAgree (turn handlers (abridged_daemon d) reading draw (option_map abridged_daemon_link found)) (turn handlers d reading draw found)
@@ -228,18 +228,18 @@ fetches-found : (d : DaemonNode) (reading : ℕ) (draw : List ℕ) (found : Opti
     → DaemonsAgree (fetches_on (abridged_daemon d) reading draw (option_map (cut_found abridged_daemon_link) found)) (fetches_on d reading draw found)
 fetches-found d reading draw None h w = record { out = refl; state = record { held = node-twice abridged_daemon_link daemon-forgets-links (record d { own = record d.own { dials = true } }); within = h } }
 fetches-found d reading draw (Some (link, (s, requests))) h w =
-    let a : Arrival Asker DaemonStage = arrival (me d.own) d.own.asker link reading draw in
+    let a : Arrival MonClient DaemonStage = arrival (me d.own) d.own.mon_client link reading draw in
     let l : Link DaemonStage = abridged_daemon_link link in
     let same : SameAhead l link = same-ahead link link.stage in
-    let cut_row : Row Asker DaemonStage = asks_rotating open_to_ask (at a l) (unsigned s) requests in
-    let row : Row Asker DaemonStage = asks_rotating open_to_ask a s requests in
+    let cut_row : Row MonClient DaemonStage = asks_rotating open_to_ask (at a l) (unsigned s) requests in
+    let row : Row MonClient DaemonStage = asks_rotating open_to_ask a s requests in
     let alike = request-alike abridged_daemon_link open_to_ask (λ t r k. refl) a l s requests (Rotating reading) (sealed_request s.keys requests asked.Rotating) same w in
     let after : ℕ → Type 0 = λ n.
-    DaemonsAgree (carried_out (abridged_daemon d) l.number false (lifted (with_asker d.own) cut_row)) (carried_out d n false (lifted (with_asker d.own) row))
+    DaemonsAgree (carried_out (abridged_daemon d) l.number false (lifted (with_mon_client d.own) cut_row)) (carried_out d n false (lifted (with_mon_client d.own) row))
     in
     subst after same.number
-    (carried-alike abridged_daemon_link daemon-forgets-links d l.number false (lifted (with_asker d.own) cut_row) (lifted (with_asker d.own) row) h
-    (lifted-alike abridged_daemon_link (with_asker d.own) cut_row row alike))
+    (carried-alike abridged_daemon_link daemon-forgets-links d l.number false (lifted (with_mon_client d.own) cut_row) (lifted (with_mon_client d.own) row) h
+    (lifted-alike abridged_daemon_link (with_mon_client d.own) cut_row row alike))
 
 fetches-on-agree : (d : DaemonNode) (reading : ℕ) (draw : List ℕ) → AllByRecursion IsWithin d.links
     → DaemonsAgree (fetches_on (abridged_daemon d) reading draw (first_open asking_open (map abridged_daemon_link d.links))) (fetches_on d reading draw (first_open asking_open d.links))
@@ -264,7 +264,7 @@ fetches-agree d reading draw h =
     by_test false = fetches-on-agree d reading draw h
 
 ticks-agree : (d : DaemonNode) (reading : ℕ) (draw : List ℕ) → AllByRecursion IsWithin d.links → DaemonsAgree (ticks (abridged_daemon d) reading draw) (ticks d reading draw)
-ticks-agree d reading draw h = by_test (is_outdated reading d.own.asker.view)
+ticks-agree d reading draw h = by_test (is_outdated reading d.own.mon_client.view)
   where
     by_test : (old : Bool) → DaemonsAgree (if old then fetches (abridged_daemon d) reading draw else idles (abridged_daemon d)) (if old then fetches d reading draw else idles d)
     by_test true = fetches-agree d reading draw h
@@ -272,24 +272,24 @@ ticks-agree d reading draw h = by_test (is_outdated reading d.own.asker.view)
 
 -- ---- links that open, and that are gone
 
-guest-agrees : (d : DaemonNode) (a : Arrival Daemon DaemonStage) (stage : DaemonStage) (full : Bool) → AllByRecursion IsWithin d.links → IsWithin a.link
+incoming-agrees : (d : DaemonNode) (a : Arrival Daemon DaemonStage) (stage : DaemonStage) (full : Bool) → AllByRecursion IsWithin d.links → IsWithin a.link
     → let row : Row Daemon DaemonStage = (if full then refuses a LinksFull [] else goes_on a stage own_banner []) in
     DaemonsAgree (carried_out (abridged_daemon d) a.link.number false row) (carried_out d a.link.number false row)
-guest-agrees d a stage true h w =
+incoming-agrees d a stage true h w =
     let row : Row Daemon DaemonStage = refuses a LinksFull [] in carried-alike abridged_daemon_link daemon-forgets-links d a.link.number false row row h (record { kept = refl; within = tt })
-guest-agrees d a stage false h w =
+incoming-agrees d a stage false h w =
     let row : Row Daemon DaemonStage = goes_on a stage own_banner [] in carried-alike abridged_daemon_link daemon-forgets-links d a.link.number false row row h (record { kept = refl; within = w })
 
-opens-guest-agree : (d : DaemonNode) (reading : ℕ) (draw : List ℕ) (n : ℕ) → AllByRecursion IsWithin d.links
-    → DaemonsAgree (opens_guest (abridged_daemon d) reading draw n) (opens_guest d reading draw n)
-opens-guest-agree d reading draw n h =
+opens-incoming-agree : (d : DaemonNode) (reading : ℕ) (draw : List ℕ) (n : ℕ) → AllByRecursion IsWithin d.links
+    → DaemonsAgree (opens_incoming (abridged_daemon d) reading draw n) (opens_incoming d reading draw n)
+opens-incoming-agree d reading draw n h =
     let stage : DaemonStage = AsAcceptor acceptor.AwaitsBanner in
     let a : Arrival Daemon DaemonStage = arrival (me d.own) d.own (new_link n stage) reading draw in
     let opened : ℕ → Outcome DaemonNode = λ live.
     carried_out (abridged_daemon d) n false (if nat_le 1024 live then refuses a LinksFull [] else goes_on a stage own_banner [])
     in
-    subst (λ (o : Outcome DaemonNode). DaemonsAgree o (opens_guest d reading draw n)) (ap opened (sym (length-map d.links abridged_daemon_link)))
-    (guest-agrees d a stage (nat_le 1024 (length d.links)) h (omega arith))
+    subst (λ (o : Outcome DaemonNode). DaemonsAgree o (opens_incoming d reading draw n)) (ap opened (sym (length-map d.links abridged_daemon_link)))
+    (incoming-agrees d a stage (nat_le 1024 (length d.links)) h (omega arith))
 
 opens-own-agree : (d : DaemonNode) (reading : ℕ) (draw : List ℕ) (n : ℕ) → AllByRecursion IsWithin d.links
     → DaemonsAgree (opens_own (abridged_daemon d) reading draw n) (opens_own d reading draw n)
@@ -300,7 +300,7 @@ opens-own-agree d reading draw n h =
 
 opens-agree : (d : DaemonNode) (reading : ℕ) (draw : List ℕ) (n : ℕ) (p : Option Peer) → AllByRecursion IsWithin d.links
     → DaemonsAgree (opens (abridged_daemon d) reading draw n p) (opens d reading draw n p)
-opens-agree d reading draw n None h = opens-guest-agree d reading draw n h
+opens-agree d reading draw n None h = opens-incoming-agree d reading draw n h
 opens-agree d reading draw n (Some (peer.Daemon daemon)) h = idles-same d h
 opens-agree d reading draw n (Some peer.Monitor) h = by_test d.own.dials
   where
@@ -399,7 +399,7 @@ daemon-agrees handlers d (Gone n) reading draw h =
 daemon-agrees handlers d (Submit command) reading draw h = submits-agree d reading draw command h
 daemon-agrees handlers d Tick reading draw h = ticks-agree d reading draw h
 daemon-agrees handlers d (Look view) reading draw h =
-    idles-same (record d { own = record d.own { asker = record d.own.asker { view = view } } }) h
+    idles-same (record d { own = record d.own { mon_client = record d.own.mon_client { view = view } } }) h
 daemon-agrees handlers d Restart reading draw h = record { out = refl; state = record { held = refl; within = tt } }
 
 as-same : (o p : Outcome DaemonNode) → DaemonsAgree o p → AreSameDaemon o p
@@ -444,8 +444,8 @@ daemon-lost m s n stands = gone-stands abridged_daemon_link daemon-forgets-links
 pub daemon-undialled : (m s : DaemonNode) → DaemonNodeStandsFor m s → DaemonNodeStandsFor (undialled m) (undialled s)
 daemon-undialled m s stands = record { held = ap undialled stands.held; within = stands.within }
 
-pub daemon-opening : (asker : Asker) → DaemonNodeStandsFor (opening_daemon asker) (opening_daemon asker)
-daemon-opening asker = record { held = refl; within = tt }
+pub daemon-opening : (mon_client : MonClient) → DaemonNodeStandsFor (opening_daemon mon_client) (opening_daemon mon_client)
+daemon-opening mon_client = record { held = refl; within = tt }
 
 pub daemon-twice : (d : DaemonNode) → abridged_daemon (abridged_daemon d) ≡ abridged_daemon d
 daemon-twice d = node-twice abridged_daemon_link daemon-forgets-links d

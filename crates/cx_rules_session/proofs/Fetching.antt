@@ -21,7 +21,7 @@ use Rattle.cx_authorize.specs.cx_wire.specs.declared.bodies.Reply.TheVariants as
 use Rattle.cx_authorize.specs.cx_wire.specs.declared.bodies.Request.TheVariants as asked
 use Rattle.cx_rules.specs.Connector as connector
 use Rattle.cx_rules.specs.Fronts.{Front, keys_behind, secure_next, taking}
-use Rattle.cx_rules.specs.Holdings.{Asker}
+use Rattle.cx_rules.specs.Holdings.{MonClient}
 use Rattle.cx_rules.specs.Inputs.{Turn, Tick}
 use Rattle.cx_rules.specs.Links.{Link}
 use Rattle.cx_rules.specs.Messages.{Message, body_as, message_in}
@@ -37,7 +37,7 @@ use Rattle.cx_rules.specs.declared.requests.Waiting.{Waiting}
 use Rattle.cx_rules.specs.declared.requests.Want.TheVariants.{Rotating}
 use Rattle.cx_rules_session.specs.Asks.{with_book}
 use Rattle.cx_rules_session.specs.Complete.{HasOpenLink, IsBehind, IsFetchDue, IsFetched, IsFetchReply, SaysAndStays, sealed_bytes}
-use Rattle.cx_rules_session.specs.DaemonRule.{Daemon, DaemonNode, DaemonStage, AsConnector, DaemonState, asking_open, book_after, book_reply, daemon_step, fetches, fetches_on, is_fetching, me, open_to_ask, state_behind, ticks, turn, with_asker}
+use Rattle.cx_rules_session.specs.DaemonRule.{Daemon, DaemonNode, DaemonStage, AsConnector, DaemonState, asking_open, book_after, book_reply, daemon_step, fetches, fetches_on, is_fetching, me, open_to_ask, state_behind, ticks, turn, with_mon_client}
 use Rattle.cx_rules_session.specs.Kinds.{of_kind, turn_of_kind}
 use Rattle.cx_rules_session.proofs.Sealable.{frame-sealed, short-request}
 use Rattle.cx_rules_session.proofs.Serving.{unequal}
@@ -57,7 +57,7 @@ fetched-at : (d : DaemonState) (reading : ℕ) (draw : List ℕ) → IsFetchDue 
 fetched-at d reading draw due =
     let by_age : Bool → Outcome DaemonNode = λ old. if old then fetches d.node reading draw else idles d.node in
     let by_way : Bool → Outcome DaemonNode = λ under_way. if under_way then idles d.node else fetches_on d.node reading draw (first_open asking_open d.node.links) in
-    ap by_age (outdated reading d.node.own.asker.view.generations due.behind) ∙ ap by_way due.none
+    ap by_age (outdated reading d.node.own.mon_client.view.generations due.behind) ∙ ap by_way due.none
 
 pub asks_for_link : (handlers : Handlers) (d : DaemonState) (reading : ℕ) (draw : List ℕ) → IsFetchDue d reading → first_open asking_open d.node.links ≡ None
     → ((daemon_step handlers d Tick reading draw).out.opens ≡ Monitor ∷ []) × (is_fetching (daemon_step handlers d Tick reading draw).state.node ≡ true)
@@ -70,10 +70,10 @@ pub asks_again : (handlers : Handlers) (d : DaemonState) (reading : ℕ) (draw :
     → SaysAndStays link.number (sealed_bytes s.keys (request_message (requests.count + 1) asked.Rotating)) [] (daemon_step handlers d Tick reading draw).out
 asks_again handlers d reading draw link s requests due has =
     let f : Frame = request_message (requests.count + 1) asked.Rotating in
-    let a : Arrival Asker DaemonStage = arrival (me d.node.own) d.node.own.asker link reading draw in
+    let a : Arrival MonClient DaemonStage = arrival (me d.node.own) d.node.own.mon_client link reading draw in
     let found : Option (Link DaemonStage × (Secured × Requests)) → Outcome DaemonNode = λ o. fetches_on d.node reading draw o in
     let carried : Result SealedFrame Reason → Outcome DaemonNode = λ r.
-    carried_out d.node link.number false (lifted (with_asker d.node.own) (sends_request open_to_ask a s requests (Rotating reading) r))
+    carried_out d.node link.number false (lifted (with_mon_client d.node.own) (sends_request open_to_ask a s requests (Rotating reading) r))
     in
     let by_count : Bool → Result SealedFrame Reason = λ spent. if spent then Err reason.Spent else unless_unsealed (secure_frame s.keys f) in
     let sealing : sealed_request s.keys requests asked.Rotating ≡ Ok (sealed_under s.keys f) =
@@ -106,27 +106,27 @@ fetches_once handlers d reading draw link s requests asked reply due =
     let f : Frame = due.frame in
     let keys : Keys = keys_behind s.keys f in
     let a : Arrival Daemon DaemonStage = arrival (me node.own) node.own (of_kind AsConnector k) reading draw in
-    let b : Arrival Asker connector.Stage = arrival (me node.own) node.own.asker k reading draw in
-    let c : Arrival Asker connector.Stage = at b (taking k due.stands.size) in
+    let b : Arrival MonClient connector.Stage = arrival (me node.own) node.own.mon_client k reading draw in
+    let c : Arrival MonClient connector.Stage = at b (taking k due.stands.size) in
     let t : Secured = under s keys in
     let opened : List SealEntry = due.stands.opened in
     let Holds : Outcome DaemonNode → Type 0 = λ o.
     IsFetched d asked reply.generations (state_behind (Turn link.number) (o, d.book))
     in
-    let Turns : Turned Asker connector.Stage → Type 0 = λ u. Holds (turns node a (turn_of_kind (with_asker node.own) AsConnector u)) in
+    let Turns : Turned MonClient connector.Stage → Type 0 = λ u. Holds (turns node a (turn_of_kind (with_mon_client node.own) AsConnector u)) in
     let Front_is : Front (Link connector.Stage × Frame × Keys) → Type 0 = λ front.
     Turns (turned_by (λ (l, g, behind) seals. with_opened seals (on_open connector.Open (at b l) (under s behind) requests g)) front)
     in
-    let Row_is : Row Asker connector.Stage → Type 0 = λ row. Turns (Handles (with_opened opened row)) in
-    let by_tag : ℕ → Row Asker connector.Stage = λ n.
+    let Row_is : Row MonClient connector.Stage → Type 0 = λ row. Turns (Handles (with_opened opened row)) in
+    let by_tag : ℕ → Row MonClient connector.Stage = λ n.
     if n == 18 then on_keepalive c t (λ behind. connector.Open behind requests) (payload keepalive2_layout.form f)
     else if n == 19 then on_keepalive_ack c t (λ behind. connector.Open behind requests) (payload keepalive2_ack_layout.form f)
     else on_reply connector.Open c t requests f
     in
-    let seals : List SealEntry = (unlocked rotating_reply_layout.form Principal node.own.asker.secret due.sealed).seals in
+    let seals : List SealEntry = (unlocked rotating_reply_layout.form Principal node.own.mon_client.secret due.sealed).seals in
     let is_row : on_open connector.Open c t requests f ≡ takes connector.Open c t requests (Views asked reply.generations seals) =
     ap by_tag due.tag
-    ∙ ap (takes connector.Open c t requests) (told node.own.asker.secret requests f due.message due.sealed due.later asked reply due.reads due.type_ due.body due.waits due.opens)
+    ∙ ap (takes connector.Open c t requests) (told node.own.mon_client.secret requests f due.message due.sealed due.later asked reply due.reads due.type_ due.body due.waits due.opens)
     in
     let row : Row_is (takes connector.Open c t requests (Views asked reply.generations seals)) = record { entered = refl; view = refl; shuts = refl } in
     let front : Front_is (secure_next s.keys k) = subst Front_is (sym due.stands.next) (subst Row_is (sym is_row) row) in

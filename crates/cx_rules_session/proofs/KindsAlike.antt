@@ -7,7 +7,7 @@ use Rattle.cx_session.specs.cx_base.specs.declared.nodes.NodeName.{NodeName}
 use Rattle.cx_authorize.specs.cx_journal.specs.declared.entries.Entry.{Entry}
 use Rattle.cx_authorize.specs.cx_journal.specs.declared.outcomes.Reason.{Reason}
 use Rattle.cx_rules.specs.Abridged.{IsWithin, abridged_row, cut, unsigned}
-use Rattle.cx_rules.specs.Holdings.{Asker}
+use Rattle.cx_rules.specs.Holdings.{MonClient}
 use Rattle.cx_rules.specs.Links.{Link}
 use Rattle.cx_rules.specs.Requests.{Requests, behind_request, first_open, open_or, sends_request}
 use Rattle.cx_rules.specs.Rows.{Arrival, Row, Turned, Waits, Refuses, Handles, at, lifted, refused_entry}
@@ -179,7 +179,7 @@ module _ {Stage : Type 0} (kept_of : Stage → Option (Secured × Requests)) whe
 -- a request on a link of which a part is forgotten
 module _ {Stage : Type 0} (abridged : Link Stage → Link Stage) (open_with : Secured → Requests → Stage)
     (cuts : (s : Secured) (requests : Requests) (l : Link Stage) → abridged (record l { stage = open_with s requests }) ≡ cut l (open_with (unsigned s) requests)) where
-  pub request-alike : (a : Arrival Asker Stage) (l : Link Stage) (s : Secured) (requests : Requests) (want : Want) (sealed : Result SealedFrame Reason) → SameAhead l a.link → IsWithin a.link
+  pub request-alike : (a : Arrival MonClient Stage) (l : Link Stage) (s : Secured) (requests : Requests) (want : Want) (sealed : Result SealedFrame Reason) → SameAhead l a.link → IsWithin a.link
       → Alike abridged (sends_request open_with (at a l) (unsigned s) requests want sealed) (sends_request open_with a s requests want sealed)
   request-alike a l s requests want (Ok sealed) e w =
       let t : Secured = under s sealed.keys in
@@ -188,6 +188,6 @@ module _ {Stage : Type 0} (abridged : Link Stage → Link Stage) (open_with : Se
   request-alike a l s requests want (Err why) e w = refuses-alike abridged a l why [] e.number
 
 -- a row over what one has as one that asks the monitor, as one of the node
-pub lifted-alike : {Own Stage : Type 0} (abridged : Link Stage → Link Stage) (put : Asker → Own) (r s : Row Asker Stage) → Alike abridged r s → Alike abridged (lifted put r) (lifted put s)
+pub lifted-alike : {Own Stage : Type 0} (abridged : Link Stage → Link Stage) (put : MonClient → Own) (r s : Row MonClient Stage) → Alike abridged r s → Alike abridged (lifted put r) (lifted put s)
 lifted-alike {Own} {Stage} abridged put r s alike =
-    let as_one : Row Asker Stage → Row Own Stage = λ row. lifted put row in record { kept = ap as_one alike.kept; within = alike.within }
+    let as_one : Row MonClient Stage → Row Own Stage = λ row. lifted put row in record { kept = ap as_one alike.kept; within = alike.within }

@@ -3,7 +3,7 @@ pub mod Authorizing
 pub mod CallForgets
 pub mod DaemonForgets
 pub mod Fetching
-pub mod GuestForgets
+pub mod IncomingForgets
 pub mod KindsAlike
 pub mod Lengths
 pub mod Sealable

@@ -22,13 +22,13 @@ use Rattle.cx_rules.specs.cx_steps.specs.declared.seals.SealEntry.TheVariants.{D
 use Rattle.cx_rules.specs.Connector as connector
 use Rattle.cx_rules.specs.Connector.{Login, client_ident, holding, identifies}
 use Rattle.cx_rules.specs.Fronts.{Front, keys_behind, secure_next, taking}
-use Rattle.cx_rules.specs.Holdings.{Asker, held_login}
+use Rattle.cx_rules.specs.Holdings.{MonClient, held_login}
 use Rattle.cx_rules.specs.Inputs.{Submit, Turn}
 use Rattle.cx_rules.specs.Links.{Link}
 use Rattle.cx_rules.specs.Payloads.{due}
 use Rattle.cx_rules.specs.Rows.{Arrival, Handles, Outcome, Row, Turned, arrival, at, carried_out, refuses, secure_sent, turned_by, turns, with_opened}
 use Rattle.cx_rules.specs.Secured.{Keys, SealedFrame, Secured, secure_frame, signature_found, under}
-use Rattle.cx_rules_session.specs.ClientRule.{ClientStage, ToMonitor, ToDaemon, WholeClient, WholeClientNode, first_call, having_session, me, pushes, sends_in, sends_on, sent_entry, turn, whole_client_rule, with_asker}
+use Rattle.cx_rules_session.specs.ClientRule.{ClientStage, ToMonitor, ToDaemon, WholeClient, WholeClientNode, first_call, having_session, me, pushes, sends_in, sends_on, sent_entry, turn, whole_client_rule, with_mon_client}
 use Rattle.cx_rules_session.specs.Complete.{EntersFirst, HasOpenCall, IsSendable, IsSizedOperation, IsSigned, SaysAndStays, sealed_bytes}
 use Rattle.cx_rules_session.specs.Kinds.{entered_before, of_kind, turn_of_kind}
 use Rattle.cx_rules_session.specs.Presenter as call
@@ -94,36 +94,36 @@ sends_first c daemon operation session reading draw due =
 -- ---- a login that is held
 
 -- behind a right signature, whether or not CLIENT_IDENT can be sealed
-held-by : (a : connector.AskerArrival) (s : Secured) (login : Login) (r : Result SealedFrame BytesFault)
+held-by : (a : connector.MonClientArrival) (s : Secured) (login : Login) (r : Result SealedFrame BytesFault)
     → (let b = holding a (held_login a.own.holdings login.gid login.opened) in
     let cookie = cookie_of a.draw in
-    let row : Row Asker connector.Stage = secure_sent b s (λ behind. connector.AwaitsIdent behind login.opened.auth.session) (signature_found s ∷ Drawn (draw.Cookie cookie) ∷ []) r in
+    let row : Row MonClient connector.Stage = secure_sent b s (λ behind. connector.AwaitsIdent behind login.opened.auth.session) (signature_found s ∷ Drawn (draw.Cookie cookie) ∷ []) r in
     row.own.holdings ≡ held_login a.own.holdings login.gid login.opened)
 held-by a s login (Ok sealed) = refl
 held-by a s login (Err why) = refl
 
 pub holds : (c : WholeClientNode) (link : Link connector.Stage) (s : Secured) (login : Login) (reading : ℕ) (draw : List ℕ) → IsSigned c link s login
-    → (whole_client_rule c (Turn link.number) reading draw).state.own.asker.holdings ≡ held_login c.own.asker.holdings login.gid login.opened
+    → (whole_client_rule c (Turn link.number) reading draw).state.own.mon_client.holdings ≡ held_login c.own.mon_client.holdings login.gid login.opened
 holds c link s login reading draw signed =
     let stage : connector.Stage = connector.AwaitsSignature s login in
     let k : Link connector.Stage = record link { stage = stage } in
     let f : Frame = signed.frame in
     let keys : Keys = keys_behind s.keys f in
     let a : Arrival WholeClient ClientStage = arrival (me c.own) c.own (of_kind ToMonitor k) reading draw in
-    let b : connector.AskerArrival = arrival (me c.own) c.own.asker k reading draw in
-    let e : connector.AskerArrival = at b (taking k signed.stands.size) in
+    let b : connector.MonClientArrival = arrival (me c.own) c.own.mon_client k reading draw in
+    let e : connector.MonClientArrival = at b (taking k signed.stands.size) in
     let t : Secured = under s keys in
     let opened : List SealEntry = signed.stands.opened in
-    let held = held_login c.own.asker.holdings login.gid login.opened in
-    let Turns : Turned Asker connector.Stage → Type 0 = λ u. (turns c a (turn_of_kind (with_asker c.own) ToMonitor u)).state.own.asker.holdings ≡ held in
+    let held = held_login c.own.mon_client.holdings login.gid login.opened in
+    let Turns : Turned MonClient connector.Stage → Type 0 = λ u. (turns c a (turn_of_kind (with_mon_client c.own) ToMonitor u)).state.own.mon_client.holdings ≡ held in
     let Front_is : Front (Link connector.Stage × Frame × Keys) → Type 0 = λ front.
     Turns (turned_by (λ (l, g, behind) seals. with_opened seals (connector.on_signature (at b l) (under s behind) login (due 7 auth_signature_layout.form g))) front)
     in
-    let Row_is : Row Asker connector.Stage → Type 0 = λ row. Turns (Handles (with_opened opened row)) in
-    let by_read : Result AuthSignature BytesFault → Row Asker connector.Stage = λ r. connector.on_signature e t login r in
-    let by_test : Bool → Row Asker connector.Stage = λ right. if right then identifies e t login else refuses e (reason.Login SignatureWrong) [] in
+    let Row_is : Row MonClient connector.Stage → Type 0 = λ row. Turns (Handles (with_opened opened row)) in
+    let by_read : Result AuthSignature BytesFault → Row MonClient connector.Stage = λ r. connector.on_signature e t login r in
+    let by_test : Bool → Row MonClient connector.Stage = λ right. if right then identifies e t login else refuses e (reason.Login SignatureWrong) [] in
     let row : Row_is (identifies e t login) =
     held-by e t login (secure_frame t.keys (client_ident e.own login.gid 1 (cookie_of draw)))
     in
     let front : Front_is (secure_next s.keys k) = subst Front_is (sym signed.stands.next) (subst Row_is (sym (ap by_read signed.reads ∙ ap by_test signed.right)) row) in
-    subst (λ (found : Option (Link ClientStage)). (turn c reading draw found).state.own.asker.holdings ≡ held) (sym signed.own) front
+    subst (λ (found : Option (Link ClientStage)). (turn c reading draw found).state.own.mon_client.holdings ≡ held) (sym signed.own) front

@@ -16,10 +16,10 @@ use Rattle.cx_rules.specs.cx_steps.specs.declared.events.Command.{Command}
 use Rattle.cx_rules.specs.cx_steps.specs.declared.events.Command.TheVariants as command
 use Rattle.cx_rules.specs.cx_steps.specs.declared.events.Peer.{Peer}
 use Rattle.cx_authorize.specs.cx_wire.specs.declared.bodies.Request.TheVariants as asked
-use Rattle.cx_rules.specs.Abridged.{IsWithin, abridged_asker_link, unsigned}
+use Rattle.cx_rules.specs.Abridged.{IsWithin, abridged_mon_client_link, unsigned}
 use Rattle.cx_rules.specs.Connector as connector
 use Rattle.cx_rules.specs.Greetings.{own_banner}
-use Rattle.cx_rules.specs.Holdings.{Asker}
+use Rattle.cx_rules.specs.Holdings.{MonClient}
 use Rattle.cx_rules.specs.Inputs.{Input, Opened, NoLink, Bytes, Turn, Gone, Look, Tick, Submit, Restart}
 use Rattle.cx_rules.specs.Links.{Link, link_of}
 use Rattle.cx_rules.specs.Requests.{Requests, asks_tickets, first_open, sealed_request}
@@ -28,8 +28,8 @@ use Rattle.cx_rules.specs.Secured.{Secured, secure_frame}
 use Rattle.cx_rules.specs.declared.requests.Want.TheVariants.{Tickets}
 use Rattle.cx_rules.proofs.Abridging.{Agree, Forgets, carried-alike, fed-agree, found-within, gone-held, gone-stands, idles-agree, link_of_map, node-twice, without-within}
 use Rattle.cx_rules.proofs.AlikeRows.{SameAhead, SameTurn, secure-alike, turns-agree}
-use Rattle.cx_rules.proofs.AskerForgets.{asker-forgets, turned-alike}
-use Rattle.cx_rules_session.specs.ClientRule.{ClientStage, ToMonitor, ToDaemon, Dial, WholeClient, WholeClientNode, asking_open, call_open, call_or, caller_to, calls, calls_with, connects, dial_of, first_call, first_stage, having_session, is_at_rest, is_idle, is_to, is_to_monitor, logs_in, loses, me, open_to_ask, opening_whole_client, opens, opens_dialled, own_behind_gone, pushes, refuses_command, renews, renews_on, sends_in, sends_on, sent_entry, submits, turn, turned_at, undialled, unreached, whole_client_rule, with_asker, with_caller}
+use Rattle.cx_rules.proofs.MonClientForgets.{mon_client-forgets, turned-alike}
+use Rattle.cx_rules_session.specs.ClientRule.{ClientStage, ToMonitor, ToDaemon, Dial, WholeClient, WholeClientNode, asking_open, call_open, call_or, caller_to, calls, calls_with, connects, dial_of, first_call, first_stage, having_session, is_at_rest, is_idle, is_to, is_to_monitor, logs_in, loses, me, open_to_ask, opening_whole_client, opens, opens_dialled, own_behind_gone, pushes, refuses_command, renews, renews_on, sends_in, sends_on, sent_entry, submits, turn, turned_at, undialled, unreached, whole_client_rule, with_mon_client, with_caller}
 use Rattle.cx_rules_session.specs.Forgets.{WholeClientStandsFor, abridged_call_link, abridged_client_at, abridged_client_link, abridged_whole_client}
 use Rattle.cx_rules_session.specs.Kinds.{entered_before, in_stage, turn_of_kind}
 use Rattle.cx_rules_session.specs.Presenter as call
@@ -41,24 +41,24 @@ use Rattle.cx_rules_session.proofs.KindsAlike.{comes-of-kind, cut_found, cut_kep
 -- ---- a link
 
 number-of : (l : Link ClientStage) (stage : ClientStage) → (abridged_client_at l stage).number ≡ l.number
-number-of l (ToMonitor stage) = number-of-kind ToMonitor abridged_asker_link abridged_client_link asker-forgets (λ k. refl) (in_stage l stage)
+number-of l (ToMonitor stage) = number-of-kind ToMonitor abridged_mon_client_link abridged_client_link mon_client-forgets (λ k. refl) (in_stage l stage)
 number-of l (ToDaemon stage) = number-of-kind ToDaemon abridged_call_link abridged_client_link call-forgets (λ k. refl) (in_stage l stage)
 
 twice-of : (l : Link ClientStage) (stage : ClientStage)
     → (let k : Link ClientStage = record l { stage = stage } in abridged_client_link (abridged_client_link k)) ≡ abridged_client_link (record l { stage = stage })
-twice-of l (ToMonitor stage) = twice-of-kind ToMonitor abridged_asker_link abridged_client_link asker-forgets (λ k. refl) (in_stage l stage)
+twice-of l (ToMonitor stage) = twice-of-kind ToMonitor abridged_mon_client_link abridged_client_link mon_client-forgets (λ k. refl) (in_stage l stage)
 twice-of l (ToDaemon stage) = twice-of-kind ToDaemon abridged_call_link abridged_client_link call-forgets (λ k. refl) (in_stage l stage)
 
 sends-of : (l : Link ClientStage) (stage : ClientStage) (bytes : List ℕ)
     → (let k : Link ClientStage = abridged_client_link (record l { stage = stage }) in abridged_client_link (record k { sent = k.sent ++ bytes }))
     ≡ abridged_client_link (record l { sent = l.sent ++ bytes; stage = stage })
-sends-of l (ToMonitor stage) bytes = sends-of-kind ToMonitor abridged_asker_link abridged_client_link asker-forgets (λ k. refl) (in_stage l stage) bytes
+sends-of l (ToMonitor stage) bytes = sends-of-kind ToMonitor abridged_mon_client_link abridged_client_link mon_client-forgets (λ k. refl) (in_stage l stage) bytes
 sends-of l (ToDaemon stage) bytes = sends-of-kind ToDaemon abridged_call_link abridged_client_link call-forgets (λ k. refl) (in_stage l stage) bytes
 
 comes-of : (l : Link ClientStage) (stage : ClientStage) (bytes : List ℕ) → IsWithin l
     → (let k : Link ClientStage = abridged_client_link (record l { stage = stage }) in abridged_client_link (record k { received = k.received ++ bytes }))
     ≡ abridged_client_link (record l { received = l.received ++ bytes; stage = stage })
-comes-of l (ToMonitor stage) bytes w = comes-of-kind ToMonitor abridged_asker_link abridged_client_link asker-forgets (λ k. refl) (in_stage l stage) bytes w
+comes-of l (ToMonitor stage) bytes w = comes-of-kind ToMonitor abridged_mon_client_link abridged_client_link mon_client-forgets (λ k. refl) (in_stage l stage) bytes w
 comes-of l (ToDaemon stage) bytes w = comes-of-kind ToDaemon abridged_call_link abridged_client_link call-forgets (λ k. refl) (in_stage l stage) bytes w
 
 pub client-forgets-links : Forgets abridged_client_link
@@ -172,9 +172,9 @@ TurnsAlike c reading draw link stage =
 turned-same : (c : WholeClientNode) (reading : ℕ) (draw : List ℕ) (link : Link ClientStage) (stage : ClientStage) → IsWithin link → TurnsAlike c reading draw link stage
 turned-same c reading draw link (ToMonitor stage) w =
     let g : Link connector.Stage = in_stage link stage in
-    let b : Arrival Asker connector.Stage = arrival (me c.own) c.own.asker g reading draw in
-    let cut : Link connector.Stage = abridged_asker_link g in
-    turn-of-kind-alike (with_asker c.own) ToMonitor abridged_asker_link abridged_client_link (λ x. refl) (connector.turned_at (at b cut) cut.stage) (connector.turned_at b stage) (turned-alike b stage w)
+    let b : Arrival MonClient connector.Stage = arrival (me c.own) c.own.mon_client g reading draw in
+    let cut : Link connector.Stage = abridged_mon_client_link g in
+    turn-of-kind-alike (with_mon_client c.own) ToMonitor abridged_mon_client_link abridged_client_link (λ x. refl) (connector.turned_at (at b cut) cut.stage) (connector.turned_at b stage) (turned-alike b stage w)
 turned-same c reading draw link (ToDaemon stage) w =
     let g : Link CallStage = in_stage link stage in
     let cut : Link CallStage = abridged_call_link g in
@@ -229,18 +229,18 @@ renews-found : (c : WholeClientNode) (services reading : ℕ) (draw : List ℕ) 
     → ClientsAgree (renews_on (abridged_whole_client c) services reading draw (option_map (cut_found abridged_client_link) found)) (renews_on c services reading draw found)
 renews-found c services reading draw None h w = refuses-agree c reason.NoSession h
 renews-found c services reading draw (Some (link, (s, requests))) h w =
-    let a : Arrival Asker ClientStage = arrival (me c.own) c.own.asker link reading draw in
+    let a : Arrival MonClient ClientStage = arrival (me c.own) c.own.mon_client link reading draw in
     let l : Link ClientStage = abridged_client_link link in
     let same : SameAhead l link = same-ahead link link.stage in
-    let cut_row : Row Asker ClientStage = asks_tickets open_to_ask (at a l) (unsigned s) requests services in
-    let row : Row Asker ClientStage = asks_tickets open_to_ask a s requests services in
+    let cut_row : Row MonClient ClientStage = asks_tickets open_to_ask (at a l) (unsigned s) requests services in
+    let row : Row MonClient ClientStage = asks_tickets open_to_ask a s requests services in
     let alike = request-alike abridged_client_link open_to_ask (λ t r k. refl) a l s requests Tickets (sealed_request s.keys requests (asked.Tickets services)) same w in
     let after : ℕ → Type 0 = λ n.
-    ClientsAgree (carried_out (abridged_whole_client c) l.number false (lifted (with_asker c.own) cut_row)) (carried_out c n false (lifted (with_asker c.own) row))
+    ClientsAgree (carried_out (abridged_whole_client c) l.number false (lifted (with_mon_client c.own) cut_row)) (carried_out c n false (lifted (with_mon_client c.own) row))
     in
     subst after same.number
-    (carried-alike abridged_client_link client-forgets-links c l.number false (lifted (with_asker c.own) cut_row) (lifted (with_asker c.own) row) h
-    (lifted-alike abridged_client_link (with_asker c.own) cut_row row alike))
+    (carried-alike abridged_client_link client-forgets-links c l.number false (lifted (with_mon_client c.own) cut_row) (lifted (with_mon_client c.own) row) h
+    (lifted-alike abridged_client_link (with_mon_client c.own) cut_row row alike))
 
 renews-agree : (c : WholeClientNode) (services reading : ℕ) (draw : List ℕ) → AllByRecursion IsWithin c.links
     → ClientsAgree (renews (abridged_whole_client c) services reading draw) (renews c services reading draw)
@@ -254,20 +254,20 @@ renews-agree c services reading draw h =
 calls_with-agree : (c : WholeClientNode) (callee : Callee) (held : Option Held) → AllByRecursion IsWithin c.links
     → ClientsAgree (calls_with (abridged_whole_client c) callee held) (calls_with c callee held)
 calls_with-agree c callee None h = refuses-agree c (reason.NoTicket callee.daemon.kind) h
-calls_with-agree c callee (Some held) h = by_test (c.own.asker.global_seq == 2 ^ 64 - 1)
+calls_with-agree c callee (Some held) h = by_test (c.own.mon_client.global_seq == 2 ^ 64 - 1)
   where
     by_test : (last : Bool) → ClientsAgree
-        (if last then refuses_command (abridged_whole_client c) reason.Spent else calls (abridged_whole_client c) (record { callee = callee; held = held; gid = held_gid c.own.asker.holdings }))
-        (if last then refuses_command c reason.Spent else calls c (record { callee = callee; held = held; gid = held_gid c.own.asker.holdings }))
+        (if last then refuses_command (abridged_whole_client c) reason.Spent else calls (abridged_whole_client c) (record { callee = callee; held = held; gid = held_gid c.own.mon_client.holdings }))
+        (if last then refuses_command c reason.Spent else calls c (record { callee = callee; held = held; gid = held_gid c.own.mon_client.holdings }))
     by_test true = refuses-agree c reason.Spent h
     by_test false =
-        let o = calls c (record { callee = callee; held = held; gid = held_gid c.own.asker.holdings }) in with-own c o.state.own o.out h
+        let o = calls c (record { callee = callee; held = held; gid = held_gid c.own.mon_client.holdings }) in with-own c o.state.own o.out h
 
 connects-agree : (c : WholeClientNode) (daemon : Name) (lossy : Bool) → AllByRecursion IsWithin c.links
     → ClientsAgree (connects (abridged_whole_client c) daemon lossy) (connects c daemon lossy)
 connects-agree c daemon lossy h =
     let callee : Callee = record { daemon = daemon; lossy = lossy } in
-    let held : Option Held = ticket_for daemon.kind c.own.asker.holdings in
+    let held : Option Held = ticket_for daemon.kind c.own.mon_client.holdings in
     let connects_where : Bool → Outcome WholeClientNode = λ busy.
     if busy then refuses_command (abridged_whole_client c) reason.Busy else calls_with (abridged_whole_client c) callee held
     in
@@ -277,10 +277,10 @@ connects-agree c daemon lossy h =
   where
     by_test : (busy : Bool) → ClientsAgree
         (if busy then refuses_command (abridged_whole_client c) reason.Busy
-        else calls_with (abridged_whole_client c) (record { daemon = daemon; lossy = lossy }) (ticket_for daemon.kind c.own.asker.holdings))
-        (if busy then refuses_command c reason.Busy else calls_with c (record { daemon = daemon; lossy = lossy }) (ticket_for daemon.kind c.own.asker.holdings))
+        else calls_with (abridged_whole_client c) (record { daemon = daemon; lossy = lossy }) (ticket_for daemon.kind c.own.mon_client.holdings))
+        (if busy then refuses_command c reason.Busy else calls_with c (record { daemon = daemon; lossy = lossy }) (ticket_for daemon.kind c.own.mon_client.holdings))
     by_test true = refuses-agree c reason.Busy h
-    by_test false = calls_with-agree c (record { daemon = daemon; lossy = lossy }) (ticket_for daemon.kind c.own.asker.holdings) h
+    by_test false = calls_with-agree c (record { daemon = daemon; lossy = lossy }) (ticket_for daemon.kind c.own.mon_client.holdings) h
 
 -- ---- Send
 
@@ -440,8 +440,8 @@ client-lost c s n stands = gone-stands abridged_client_link client-forgets-links
 pub client-undialled : (c s : WholeClientNode) (p : Peer) → WholeClientStandsFor c s → WholeClientStandsFor (undialled c p) (undialled s p)
 client-undialled c s p stands = record { held = ap (λ n. undialled n p) stands.held; within = stands.within }
 
-pub client-opening : (asker : Asker) → WholeClientStandsFor (opening_whole_client asker) (opening_whole_client asker)
-client-opening asker = record { held = refl; within = tt }
+pub client-opening : (mon_client : MonClient) → WholeClientStandsFor (opening_whole_client mon_client) (opening_whole_client mon_client)
+client-opening mon_client = record { held = refl; within = tt }
 
 pub client-twice : (c : WholeClientNode) → abridged_whole_client (abridged_whole_client c) ≡ abridged_whole_client c
 client-twice c = node-twice abridged_client_link client-forgets-links c

@@ -20,7 +20,7 @@ use Rattle.cx_rules.specs.cx_steps.specs.declared.events.Peer.{Peer}
 use Rattle.cx_rules.specs.cx_steps.specs.declared.events.Peer.TheVariants as peer
 use Rattle.cx_rules.specs.Connector as connector
 use Rattle.cx_rules.specs.Greetings.{own_banner}
-use Rattle.cx_rules.specs.Holdings.{Asker, afresh}
+use Rattle.cx_rules.specs.Holdings.{MonClient, afresh}
 use Rattle.cx_rules.specs.Inputs.{Input, Opened, NoLink, Bytes, Turn, Gone, Look, Tick, Submit, Restart}
 use Rattle.cx_rules.specs.Links.{Link, link_of}
 use Rattle.cx_rules.specs.Requests.{Requests, asks_tickets, first_open}
@@ -45,7 +45,7 @@ pub data Dial : Type 0 where
 
 -- what it has of its own: itself as one that asks the monitor, the links that it waits for, and its sessions
 pub record WholeClient : Type 0 where
-  pub asker : Asker
+  pub mon_client : MonClient
   pub dials : List Dial
   pub sessions : List HeldSession
 
@@ -53,25 +53,25 @@ abbrev pub WholeClientNode : Type 0
 WholeClientNode = Node WholeClient ClientStage
 
 abbrev pub me : WholeClient → NodeName
-me client = node.Entity client.asker.name
+me client = node.Entity client.mon_client.name
 
-abbrev pub with_asker : WholeClient → Asker → WholeClient
-with_asker client asker = record client { asker = asker }
+abbrev pub with_mon_client : WholeClient → MonClient → WholeClient
+with_mon_client client mon_client = record client { mon_client = mon_client }
 
 -- ---- a turn
 
 -- the part that a link to a daemon reads and changes
 abbrev pub caller_to : Name → WholeClient → Caller
-caller_to daemon client = record { asker = client.asker; session = session_with daemon client.sessions }
+caller_to daemon client = record { mon_client = client.mon_client; session = session_with daemon client.sessions }
 
 abbrev pub with_caller : Name → WholeClient → Caller → WholeClient
 with_caller daemon client caller =
-    record client { asker = caller.asker; sessions = with_session daemon caller.session client.sessions }
+    record client { mon_client = caller.mon_client; sessions = with_session daemon caller.session client.sessions }
 
 -- by the kind of the link
 abbrev pub turned_at : Arrival WholeClient ClientStage → ClientStage → Turned WholeClient ClientStage
 turned_at a (ToMonitor stage) =
-    turn_of_kind (with_asker a.own) ToMonitor (connector.turned_at (arrival_in a a.own.asker stage) stage)
+    turn_of_kind (with_mon_client a.own) ToMonitor (connector.turned_at (arrival_in a a.own.mon_client stage) stage)
 turned_at a (ToDaemon stage) =
     let daemon = (callee_of stage).daemon in
     turn_of_kind (with_caller daemon a.own) ToDaemon (call.turned_at (arrival_in a (caller_to daemon a.own) stage) stage)
@@ -124,7 +124,7 @@ abbrev pub renews_on : WholeClientNode → ℕ → ℕ → List ℕ → Option (
 renews_on c services reading draw None = refuses_command c reason.NoSession
 renews_on c services reading draw (Some (link, (s, requests))) =
     carried_out c link.number false
-    (lifted (with_asker c.own) (asks_tickets open_to_ask (arrival (me c.own) c.own.asker link reading draw) s requests services))
+    (lifted (with_mon_client c.own) (asks_tickets open_to_ask (arrival (me c.own) c.own.mon_client link reading draw) s requests services))
 
 abbrev pub renews : WholeClientNode → ℕ → ℕ → List ℕ → Outcome WholeClientNode
 renews c services reading draw = renews_on c services reading draw (first_open asking_open c.links)
@@ -147,7 +147,7 @@ abbrev pub calls : WholeClientNode → Called → Outcome WholeClientNode
 calls c called = record {
   state = record c {
     own = record c.own {
-      asker = record c.own.asker { global_seq = c.own.asker.global_seq + 1 };
+      mon_client = record c.own.mon_client { global_seq = c.own.mon_client.global_seq + 1 };
       dials = waits_for_call c.own.dials called;
     };
   };
@@ -157,14 +157,14 @@ calls c called = record {
 abbrev pub calls_with : WholeClientNode → Callee → Option Held → Outcome WholeClientNode
 calls_with c callee None = refuses_command c (reason.NoTicket callee.daemon.kind)
 calls_with c callee (Some held) =
-    if c.own.asker.global_seq == 2 ^ 64 - 1 then refuses_command c reason.Spent
-    else calls c (record { callee = callee; held = held; gid = held_gid c.own.asker.holdings })
+    if c.own.mon_client.global_seq == 2 ^ 64 - 1 then refuses_command c reason.Spent
+    else calls c (record { callee = callee; held = held; gid = held_gid c.own.mon_client.holdings })
 
 -- while a link to that daemon lives there is no other
 abbrev pub connects : WholeClientNode → Name → Bool → Outcome WholeClientNode
 connects c daemon lossy =
     if list_any (λ link. is_to daemon link.stage) c.links then refuses_command c reason.Busy
-    else calls_with c (record { daemon = daemon; lossy = lossy }) (ticket_for daemon.kind c.own.asker.holdings)
+    else calls_with c (record { daemon = daemon; lossy = lossy }) (ticket_for daemon.kind c.own.mon_client.holdings)
 
 -- ---- Send
 
@@ -191,7 +191,7 @@ first_call daemon (link ∷ links) = call_or link (call_open daemon link.stage) 
 
 abbrev pub sent_entry : WholeClient → HeldSession → ℕ → Operation → Entry
 sent_entry client session seq operation = entry.Sent (record {
-  client = client.asker.name;
+  client = client.mon_client.name;
   daemon = session.daemon;
   cookie = session.client_cookie;
   seq = seq;
@@ -279,13 +279,13 @@ loses c (Some link) = record {
 }
 
 -- a client as it begins
-abbrev pub opening_whole_client : Asker → WholeClientNode
-opening_whole_client asker = record { own = record { asker = afresh asker; dials = []; sessions = [] }; links = [] }
+abbrev pub opening_whole_client : MonClient → WholeClientNode
+opening_whole_client mon_client = record { own = record { mon_client = afresh mon_client; dials = []; sessions = [] }; links = [] }
 
 -- a client begins anew, with its name, its secret, its address and its modes
 abbrev pub restarted : WholeClientNode → Outcome WholeClientNode
 restarted c = record {
-  state = opening_whole_client c.own.asker;
+  state = opening_whole_client c.own.mon_client;
   out = record nothing { entries = entry.Restarted (me c.own) ∷ [] };
 }
 

@@ -53,7 +53,7 @@ use Rattle.cx_rules.specs.declared.requests.Waiting.{Waiting}
 use Rattle.cx_rules.specs.declared.requests.Want.TheVariants.{Rotating}
 use Rattle.cx_rules_session.specs.ClientRule.{ClientStage, ToMonitor, WholeClientNode, first_call}
 use Rattle.cx_rules_session.specs.DaemonRule.{DaemonStage, AsAcceptor, AsConnector, DaemonState, asking_open, is_fetching, me, owner_entity, owner_gid}
-use Rattle.cx_rules_session.specs.Guests.{GuestArrival, GuestStage, Served}
+use Rattle.cx_rules_session.specs.IncomingLinks.{IncomingArrival, IncomingStage, Served}
 use Rattle.cx_rules_session.specs.Hosting.{Instruction, instruction_of}
 use Rattle.cx_rules_session.specs.Kinds.{of_kind}
 use Rattle.cx_rules_session.specs.Sessions.{Callee, HeldSession, session_with}
@@ -96,18 +96,18 @@ pub record StandsNext {Stage : Type 0} (link : Link Stage) (keys : Keys) (f : Fr
   pub opened : List SealEntry
   pub next : secure_next keys link ≡ Next (taking link size, f, keys_behind keys f) opened
 
--- ---- a daemon and its guests
+-- ---- a daemon and its clients
 
--- a guest's link in this stage, which is one of the daemon's
-abbrev pub in_guest_stage : Link GuestStage → GuestStage → Link GuestStage
-in_guest_stage link stage = record link { stage = stage }
+-- an incoming link in this stage, which is one of the daemon's
+abbrev pub in_incoming_stage : Link IncomingStage → IncomingStage → Link IncomingStage
+in_incoming_stage link stage = record link { stage = stage }
 
-abbrev pub HasGuest : DaemonState → Link GuestStage → GuestStage → Type 0
-HasGuest d link stage = link_of link.number d.node.links ≡ Some (of_kind AsAcceptor (in_guest_stage link stage))
+abbrev pub HasIncoming : DaemonState → Link IncomingStage → IncomingStage → Type 0
+HasIncoming d link stage = link_of link.number d.node.links ≡ Some (of_kind AsAcceptor (in_incoming_stage link stage))
 
 -- what a row goes by there
-abbrev pub guest_arrival : DaemonState → Link GuestStage → GuestStage → ℕ → List ℕ → GuestArrival
-guest_arrival d link stage reading draw = arrival (me d.node.own) d.node.own.asker (in_guest_stage link stage) reading draw
+abbrev pub incoming_arrival : DaemonState → Link IncomingStage → IncomingStage → ℕ → List ℕ → IncomingArrival
+incoming_arrival d link stage reading draw = arrival (me d.node.own) d.node.own.mon_client (in_incoming_stage link stage) reading draw
 
 -- what is judged, by this of what was shown
 abbrev pub judged_by : {X Y : Type 0} → (X → Y) → Result X AuthRefusal → Result Y AuthRefusal
@@ -133,27 +133,27 @@ pub record StandsPlain {Stage : Type 0} (link : Link Stage) (f : Frame) : Type 0
   pub next : plain_next link ≡ Next (taking link size, f) []
 
 -- AUTH_REQUEST by cephx, in secure mode, whose authorizer passes with a ticket
-pub record IsFirstPassed (d : DaemonState) (link : Link GuestStage) (reading : ℕ) (ticket : ServiceTicket) : Type 0 where
-  pub guest : HasGuest d link AwaitsRequest
+pub record IsFirstPassed (d : DaemonState) (link : Link IncomingStage) (reading : ℕ) (ticket : ServiceTicket) : Type 0 where
+  pub incoming : HasIncoming d link AwaitsRequest
   pub frame : Frame
-  pub stands : StandsPlain (in_guest_stage link AwaitsRequest) frame
+  pub stands : StandsPlain (in_incoming_stage link AwaitsRequest) frame
   pub request : AuthRequest
   pub reads : due 2 auth_request_layout.form frame ≡ Ok request
   pub method : request.method ≡ 2
   pub secure : list_any (λ mode. mode == 2) request.modes ≡ true
-  pub passes : judged_by (λ shown. shown.ticket) (judged_first d.node.own.asker.name.kind d.node.own.asker.view reading request.payload).value ≡ Ok ticket
+  pub passes : judged_by (λ shown. shown.ticket) (judged_first d.node.own.mon_client.name.kind d.node.own.mon_client.view reading request.payload).value ≡ Ok ticket
 
 -- AUTH_REQUEST_MORE whose authorizer passes with a ticket and a nonce, and answers the challenge
-pub record IsSecondPassed (d : DaemonState) (link : Link GuestStage) (awaited : Awaited) (reading : ℕ) (ticket : ServiceTicket) (nonce : ℕ) : Type 0 where
-  pub guest : HasGuest d link (AwaitsProof awaited)
+pub record IsSecondPassed (d : DaemonState) (link : Link IncomingStage) (awaited : Awaited) (reading : ℕ) (ticket : ServiceTicket) (nonce : ℕ) : Type 0 where
+  pub incoming : HasIncoming d link (AwaitsProof awaited)
   pub frame : Frame
-  pub stands : StandsPlain (in_guest_stage link (AwaitsProof awaited)) frame
+  pub stands : StandsPlain (in_incoming_stage link (AwaitsProof awaited)) frame
   pub more : AuthRequestMore
   pub reads : due 5 auth_request_more_layout.form frame ≡ Ok more
-  pub passes : judged_by {Y = ServiceTicket × ℕ} (λ shown. (shown.ticket, shown.authorize.nonce)) (judged_second awaited d.node.own.asker.view reading more.payload).value ≡ Ok (ticket, nonce)
+  pub passes : judged_by {Y = ServiceTicket × ℕ} (λ shown. (shown.ticket, shown.authorize.nonce)) (judged_second awaited d.node.own.mon_client.view reading more.payload).value ≡ Ok (ticket, nonce)
 
 -- the bytes that a signature behind a frame of this size covers
-abbrev pub covered_bytes : Link GuestStage → ℕ → List ℕ
+abbrev pub covered_bytes : Link IncomingStage → ℕ → List ℕ
 covered_bytes link size = take (link.taken + size) link.received
 
 -- AUTH_SIGNATURE over them
@@ -161,10 +161,10 @@ abbrev pub signature_frame : List ℕ → List ℕ → Frame
 signature_frame session received = control 7 auth_signature_layout.form (record { signature = hmac session received })
 
 -- CLIENT_IDENT that requires nothing, of a cookie that no live session has, where there is a place and a number for one more
-pub record IsAdmissible (d : DaemonState) (link : Link GuestStage) (s : Secured) (owner : Authority) (ident : ClientIdent) : Type 0 where
-  pub guest : HasGuest d link (AwaitsIdent s owner)
+pub record IsAdmissible (d : DaemonState) (link : Link IncomingStage) (s : Secured) (owner : Authority) (ident : ClientIdent) : Type 0 where
+  pub incoming : HasIncoming d link (AwaitsIdent s owner)
   pub frame : Frame
-  pub stands : StandsNext (in_guest_stage link (AwaitsIdent s owner)) s.keys frame
+  pub stands : StandsNext (in_incoming_stage link (AwaitsIdent s owner)) s.keys frame
   pub tag : frame.tag ≡ 8
   pub reads : payload client_ident_layout.form frame ≡ Ok ident
   pub required : ident.required ≡ 0
@@ -173,20 +173,20 @@ pub record IsAdmissible (d : DaemonState) (link : Link GuestStage) (s : Secured)
   pub numbered : d.book.next < 2 ^ 64 - 1
 
 -- SESSION_RECONNECT that the book answers by the session's number, its next epoch, its last message, and whether it is lossy
-pub record IsResumable (d : DaemonState) (link : Link GuestStage) (s : Secured) (owner : Authority) (reconnect : SessionReconnect) (number epoch last : ℕ) (lossy : Bool) : Type 0 where
-  pub guest : HasGuest d link (AwaitsIdent s owner)
+pub record IsResumable (d : DaemonState) (link : Link IncomingStage) (s : Secured) (owner : Authority) (reconnect : SessionReconnect) (number epoch last : ℕ) (lossy : Bool) : Type 0 where
+  pub incoming : HasIncoming d link (AwaitsIdent s owner)
   pub frame : Frame
-  pub stands : StandsNext (in_guest_stage link (AwaitsIdent s owner)) s.keys frame
+  pub stands : StandsNext (in_incoming_stage link (AwaitsIdent s owner)) s.keys frame
   pub tag : frame.tag ≡ 11
   pub reads : payload session_reconnect_layout.form frame ≡ Ok reconnect
   pub resumed : resume_reply owner_entity owner_gid d.book owner reconnect.client_cookie reconnect.server_cookie reconnect.global_seq reconnect.connect_seq
       ≡ Ok (number, epoch, last, lossy)
 
 -- the next message of a session: an operation that its capabilities allow, for whose kind there is a handler
-pub record IsServable (handlers : Handlers) (d : DaemonState) (link : Link GuestStage) (s : Secured) (served : Served) (i : Instruction) : Type 0 where
-  pub guest : HasGuest d link (Open s served)
+pub record IsServable (handlers : Handlers) (d : DaemonState) (link : Link IncomingStage) (s : Secured) (served : Served) (i : Instruction) : Type 0 where
+  pub incoming : HasIncoming d link (Open s served)
   pub frame : Frame
-  pub stands : StandsNext (in_guest_stage link (Open s served)) s.keys frame
+  pub stands : StandsNext (in_incoming_stage link (Open s served)) s.keys frame
   pub tag : frame.tag ≡ 17
   pub reads : instruction_of (message_in frame) ≡ Ok i
   pub due : take_reply d.book served.number served.epoch i.seq ≡ Ok tt
@@ -203,7 +203,7 @@ IsBehind reading _ = ⊥
 
 -- a fetch is due, and none is under way
 pub record IsFetchDue (d : DaemonState) (reading : ℕ) : Type 0 where
-  pub behind : IsBehind reading d.node.own.asker.view.generations
+  pub behind : IsBehind reading d.node.own.mon_client.view.generations
   pub none : is_fetching d.node ≡ false
 
 -- a link to the monitor is open, on which a request can be sent
@@ -225,12 +225,12 @@ pub record IsFetchReply (d : DaemonState) (link : Link connector.Stage) (s : Sec
   pub body : body_as reply_layout.form message.body ≡ Spelled (given.Rotating sealed)
   pub later : List Waiting
   pub waits : requests.waiting ≡ record { tid = message.header.tid; want = Rotating asked } ∷ later
-  pub opens : (unlocked rotating_reply_layout.form Principal d.node.own.asker.secret sealed).value ≡ Some reply
+  pub opens : (unlocked rotating_reply_layout.form Principal d.node.own.mon_client.secret sealed).value ≡ Some reply
 
 -- it is entered that these generations were fetched, and they are the view, with the reading at which they were asked for; no link is shut
 pub record IsFetched (d : DaemonState) (asked : ℕ) (generations : List Generation) (o : Outcome DaemonState) : Type 0 where
-  pub entered : o.out.entries ≡ fetched_entry d.node.own.asker.name asked generations ∷ []
-  pub view : o.state.node.own.asker.view ≡ record { generations = generations; asked = Some asked }
+  pub entered : o.out.entries ≡ fetched_entry d.node.own.mon_client.name asked generations ∷ []
+  pub view : o.state.node.own.mon_client.view ≡ record { generations = generations; asked = Some asked }
   pub shuts : o.out.shuts ≡ []
 
 -- ---- a client

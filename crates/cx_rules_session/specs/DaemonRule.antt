@@ -1,4 +1,4 @@
--- What a daemon does at each event: as acceptor of its guests, and as one that asks the monitor for the generations of its own type.
+-- What a daemon does at each event: as acceptor of its clients, and as one that asks the monitor for the generations of its own type.
 use Rattle.std.specs.Prelude.{ℕ, ◌==◌, ◌&&◌, ◌||◌, not, Bool, true, false, List, [], ◌∷◌, ◌++◌, filter, length, map, nat_le, Option, Some, None, if◌then◌else◌}
 use Rattle.std.specs.List.{list_any}
 use Rattle.cx_authorize.specs.Daemon.{Authority}
@@ -24,37 +24,37 @@ use Rattle.cx_rules.specs.cx_steps.specs.declared.events.Peer.TheVariants as pee
 use Rattle.cx_rules.specs.Acceptor as acceptor
 use Rattle.cx_rules.specs.Connector as connector
 use Rattle.cx_rules.specs.Greetings.{own_banner}
-use Rattle.cx_rules.specs.Holdings.{Asker, afresh}
+use Rattle.cx_rules.specs.Holdings.{MonClient, afresh}
 use Rattle.cx_rules.specs.Inputs.{Input, Opened, NoLink, Bytes, Turn, Gone, Look, Tick, Submit, Restart}
 use Rattle.cx_rules.specs.Links.{Link, link_of}
 use Rattle.cx_rules.specs.Requests.{Requests, asks_rotating, carries_fetch, first_open, is_outdated}
 use Rattle.cx_rules.specs.Rows.{Arrival, Node, Outcome, arrival, carried_out, fed, forgotten, goes_on, idles, lifted, new_link, opens_none, refused_entry, refuses, turns}
 use Rattle.cx_rules.specs.Secured.{Secured}
 use Rattle.cx_rules_session.specs.Asks.{Finished, Asking, answered, asks_map, with_book}
-use Rattle.cx_rules_session.specs.Guests.{GuestStage}
-use Rattle.cx_rules_session.specs.Hosting.{Deciding, Hosted, guest_turned}
+use Rattle.cx_rules_session.specs.IncomingLinks.{IncomingStage}
+use Rattle.cx_rules_session.specs.Hosting.{Deciding, Hosted, incoming_turned}
 use Rattle.cx_rules_session.specs.Kinds.{arrival_in, turn_of_kind}
 
 -- ---- a daemon
 
--- a link is a guest's, or the daemon's own to the monitor
+-- a link is a client's, or the daemon's own to the monitor
 pub data DaemonStage : Type 0 where
-  AsAcceptor : GuestStage → DaemonStage
+  AsAcceptor : IncomingStage → DaemonStage
   AsConnector : connector.Stage → DaemonStage
 
 -- what it has of its own: itself as one that asks the monitor, and whether it waits for a link to the monitor that it opens
 pub record Daemon : Type 0 where
-  pub asker : Asker
+  pub mon_client : MonClient
   pub dials : Bool
 
 abbrev pub DaemonNode : Type 0
 DaemonNode = Node Daemon DaemonStage
 
 abbrev pub me : Daemon → NodeName
-me daemon = node.Entity daemon.asker.name
+me daemon = node.Entity daemon.mon_client.name
 
-abbrev pub with_asker : Daemon → Asker → Daemon
-with_asker daemon asker = record daemon { asker = asker }
+abbrev pub with_mon_client : Daemon → MonClient → Daemon
+with_mon_client daemon mon_client = record daemon { mon_client = mon_client }
 
 -- ---- a session's links
 
@@ -82,13 +82,13 @@ moved_to number (Some session) o = shut_where (is_older number session) o
 -- ---- a turn
 
 abbrev pub hosts : DaemonNode → Arrival Daemon DaemonStage → Hosted → Outcome DaemonNode
-hosts d a hosted = moved_to a.link.number hosted.moved (turns d a (turn_of_kind (with_asker d.own) AsAcceptor hosted.turned))
+hosts d a hosted = moved_to a.link.number hosted.moved (turns d a (turn_of_kind (with_mon_client d.own) AsAcceptor hosted.turned))
 
 -- by the kind of the link
 abbrev pub turned_at : Handlers → DaemonNode → Arrival Daemon DaemonStage → DaemonStage → Deciding (Outcome DaemonNode)
-turned_at handlers d a (AsAcceptor stage) = asks_map (hosts d a) (guest_turned handlers (arrival_in a a.own.asker stage) stage)
+turned_at handlers d a (AsAcceptor stage) = asks_map (hosts d a) (incoming_turned handlers (arrival_in a a.own.mon_client stage) stage)
 turned_at handlers d a (AsConnector stage) =
-    Finished (turns d a (turn_of_kind (with_asker d.own) AsConnector (connector.turned_at (arrival_in a a.own.asker stage) stage)))
+    Finished (turns d a (turn_of_kind (with_mon_client d.own) AsConnector (connector.turned_at (arrival_in a a.own.mon_client stage) stage)))
 
 abbrev pub turn : Handlers → DaemonNode → ℕ → List ℕ → Option (Link DaemonStage) → Deciding (Outcome DaemonNode)
 turn handlers d reading draw None = Finished (idles d)
@@ -120,7 +120,7 @@ fetches_on d reading draw None =
     record { state = record d { own = record d.own { dials = true } }; out = record nothing { opens = peer.Monitor ∷ [] } }
 fetches_on d reading draw (Some (link, (s, requests))) =
     carried_out d link.number false
-    (lifted (with_asker d.own) (asks_rotating open_to_ask (arrival (me d.own) d.own.asker link reading draw) s requests))
+    (lifted (with_mon_client d.own) (asks_rotating open_to_ask (arrival (me d.own) d.own.mon_client link reading draw) s requests))
 
 -- while a fetch is under way there is no other
 abbrev pub fetches : DaemonNode → ℕ → List ℕ → Outcome DaemonNode
@@ -128,13 +128,13 @@ fetches d reading draw = if is_fetching d then idles d else fetches_on d reading
 
 -- at a tick a daemon fetches where it holds no generations, or the second of them has expired
 abbrev pub ticks : DaemonNode → ℕ → List ℕ → Outcome DaemonNode
-ticks d reading draw = if is_outdated reading d.own.asker.view then fetches d reading draw else idles d
+ticks d reading draw = if is_outdated reading d.own.mon_client.view then fetches d reading draw else idles d
 
 -- ---- links that open, that can't be opened, and that are gone
 
--- a guest's link: the banner is sent, unless 1,024 links live
-abbrev pub opens_guest : DaemonNode → ℕ → List ℕ → ℕ → Outcome DaemonNode
-opens_guest d reading draw number =
+-- an incoming link: the banner is sent, unless 1,024 links live
+abbrev pub opens_incoming : DaemonNode → ℕ → List ℕ → ℕ → Outcome DaemonNode
+opens_incoming d reading draw number =
     let stage : DaemonStage = AsAcceptor acceptor.AwaitsBanner in
     let a = arrival (me d.own) d.own (new_link number stage) reading draw in
     carried_out d number false (if nat_le 1024 (length d.links) then refuses a LinksFull [] else goes_on a stage own_banner [])
@@ -151,7 +151,7 @@ opens_own d reading draw number =
 
 -- a link that isn't waited for is passed over
 abbrev pub opens : DaemonNode → ℕ → List ℕ → ℕ → Option Peer → Outcome DaemonNode
-opens d reading draw number None = opens_guest d reading draw number
+opens d reading draw number None = opens_incoming d reading draw number
 opens d reading draw number (Some peer.Monitor) = if d.own.dials then opens_own (undialled d) reading draw number else idles d
 opens d reading draw number (Some (peer.Daemon daemon)) = idles d
 
@@ -167,22 +167,22 @@ loses d number stage = record {
 }
 
 abbrev pub ended_entry : DaemonNode → ℕ → Entry
-ended_entry d session = entry.Ended (record { daemon = d.own.asker.name; session = session })
+ended_entry d session = entry.Ended (record { daemon = d.own.mon_client.name; session = session })
 
--- a guest's link is forgotten, and that its session ended is entered where that lived
+-- an incoming link is forgotten, and that its session ended is entered where that lived
 abbrev pub lossy_gone : DaemonNode → ℕ → ℕ → BookReply → Deciding (Outcome DaemonNode)
 lossy_gone d number session (Ended true) = Finished (record { state = forgotten d number; out = record nothing { entries = ended_entry d session ∷ [] } })
 lossy_gone d number session (Ended false) = Finished (idles (forgotten d number))
 lossy_gone d number session _ = Finished (idles d)
 
 -- an open link that is gone ends a lossy session
-abbrev pub guest_gone : DaemonNode → ℕ → GuestStage → Deciding (Outcome DaemonNode)
-guest_gone d number (acceptor.Open s served) =
+abbrev pub incoming_gone : DaemonNode → ℕ → IncomingStage → Deciding (Outcome DaemonNode)
+incoming_gone d number (acceptor.Open s served) =
     if served.lossy then Asking (End served.number) (lossy_gone d number served.number) else Finished (idles (forgotten d number))
-guest_gone d number _ = Finished (idles (forgotten d number))
+incoming_gone d number _ = Finished (idles (forgotten d number))
 
 abbrev pub gone_by_kind : DaemonNode → ℕ → DaemonStage → Deciding (Outcome DaemonNode)
-gone_by_kind d number (AsAcceptor stage) = guest_gone d number stage
+gone_by_kind d number (AsAcceptor stage) = incoming_gone d number stage
 gone_by_kind d number (AsConnector stage) = Finished (loses d number stage)
 
 abbrev pub gone : DaemonNode → Option (Link DaemonStage) → Deciding (Outcome DaemonNode)
@@ -212,16 +212,16 @@ submits d reading draw (command.Send daemon operation) = Finished (idles d)
 
 -- the view is another one from now on
 abbrev pub looks : DaemonNode → View → Outcome DaemonNode
-looks d view = idles (record d { own = record d.own { asker = record d.own.asker { view = view } } })
+looks d view = idles (record d { own = record d.own { mon_client = record d.own.mon_client { view = view } } })
 
 -- a daemon as it begins
-abbrev pub opening_daemon : Asker → DaemonNode
-opening_daemon asker = record { own = record { asker = afresh asker; dials = false }; links = [] }
+abbrev pub opening_daemon : MonClient → DaemonNode
+opening_daemon mon_client = record { own = record { mon_client = afresh mon_client; dials = false }; links = [] }
 
 -- a daemon begins anew, with its name, its secret, its address and its modes
 abbrev pub restarted : DaemonNode → Outcome DaemonNode
 restarted d = record {
-  state = opening_daemon d.own.asker;
+  state = opening_daemon d.own.mon_client;
   out = record nothing { entries = entry.Restarted (me d.own) ∷ [] };
 }
 

@@ -2,7 +2,7 @@
 -- bytes that it took and those that it sent, and, behind the peer's signature, what signatures cover. And when two rules that ask a book come to
 -- the same.
 use Rattle.std.specs.Prelude.{◌≡◌}
-use Rattle.cx_rules.specs.Abridged.{StandsFor, abridged_asker_at, abridged_at, abridged_node, cut, unsigned}
+use Rattle.cx_rules.specs.Abridged.{StandsFor, abridged_mon_client_at, abridged_at, abridged_node, cut, unsigned}
 use Rattle.cx_rules.specs.Links.{Link}
 use Rattle.cx_rules.specs.Rows.{Outcome}
 use Rattle.cx_rules_session.specs.Asks.{Asks, Finished, Asking}
@@ -24,7 +24,7 @@ AskAlike Related _ _ = ⊥
 -- a link of either kind
 abbrev pub abridged_daemon_at : Link DaemonStage → DaemonStage → Link DaemonStage
 abridged_daemon_at link (AsAcceptor stage) = of_kind AsAcceptor (abridged_at (in_stage link stage) stage)
-abridged_daemon_at link (AsConnector stage) = of_kind AsConnector (abridged_asker_at (in_stage link stage) stage)
+abridged_daemon_at link (AsConnector stage) = of_kind AsConnector (abridged_mon_client_at (in_stage link stage) stage)
 
 abbrev pub abridged_daemon_link : Link DaemonStage → Link DaemonStage
 abridged_daemon_link link = abridged_daemon_at link link.stage
@@ -63,7 +63,7 @@ abridged_call_link link = abridged_call_at link link.stage
 
 -- a link of either kind
 abbrev pub abridged_client_at : Link ClientStage → ClientStage → Link ClientStage
-abridged_client_at link (ToMonitor stage) = of_kind ToMonitor (abridged_asker_at (in_stage link stage) stage)
+abridged_client_at link (ToMonitor stage) = of_kind ToMonitor (abridged_mon_client_at (in_stage link stage) stage)
 abridged_client_at link (ToDaemon stage) = of_kind ToDaemon (abridged_call_at (in_stage link stage) stage)
 
 abbrev pub abridged_client_link : Link ClientStage → Link ClientStage

@@ -36,7 +36,7 @@ use Rattle.cx_rules.specs.cx_steps.specs.declared.seals.SealEntry.TheVariants.{D
 use Rattle.cx_authorize.specs.cx_wire.specs.Operations.{answer_layout, operation_layout}
 use Rattle.cx_rules.specs.Acceptor.{AwaitsBanner, AwaitsHello, AwaitsRequest, AwaitsProof, AwaitsSignature, AwaitsIdent, Open, misses, on_auth_request, on_banner, on_hello, on_signature, server_ident}
 use Rattle.cx_rules.specs.Fronts.{Front, NotYet, Broken, Next, banner_next, plain_next, secure_next}
-use Rattle.cx_rules.specs.Holdings.{Asker}
+use Rattle.cx_rules.specs.Holdings.{MonClient}
 use Rattle.cx_rules.specs.Messages.{Message, acknowledgement, message, message_in, secure_frames}
 use Rattle.cx_rules.specs.MonitorRule.{session_reset}
 use Rattle.cx_rules.specs.Payloads.{control, due, payload, whole}
@@ -44,7 +44,7 @@ use Rattle.cx_rules.specs.Rows.{Turned, Waits, Refuses, Handles, at, refused_ent
 use Rattle.cx_rules.specs.Secured.{Secured, under}
 use Rattle.cx_rules.specs.Upkeep.{on_keepalive, on_keepalive_ack}
 use Rattle.cx_rules_session.specs.Asks.{Asks, Finished, Asking, asks_map}
-use Rattle.cx_rules_session.specs.Guests.{GuestArrival, GuestRow, GuestStage, Served, on_auth_request_more, on_first}
+use Rattle.cx_rules_session.specs.IncomingLinks.{IncomingArrival, IncomingRow, IncomingStage, Served, on_auth_request_more, on_first}
 use Rattle.cx_rules_session.specs.Kinds.{entered_before}
 use Rattle.cx_rules_session.specs.Lossy.{is_lossy, lossy_flags}
 
@@ -52,16 +52,16 @@ use Rattle.cx_rules_session.specs.Lossy.{is_lossy, lossy_flags}
 abbrev pub Deciding : Type 0 → Type 0
 Deciding X = Asks (BookCall Authority) BookReply X
 
--- what a turn of a guest's link comes to, and the session that moved to this link, whose other links are shut
+-- what a turn of an incoming link comes to, and the session that moved to this link, whose other links are shut
 pub record Hosted : Type 0 where
-  pub turned : Turned Asker GuestStage
+  pub turned : Turned MonClient IncomingStage
   pub moved : Option ℕ
 
 -- no session moved
-abbrev pub no_session_moves : Turned Asker GuestStage → Deciding Hosted
+abbrev pub no_session_moves : Turned MonClient IncomingStage → Deciding Hosted
 no_session_moves turned = Finished (record { turned = turned; moved = None })
 
-abbrev pub comes_to : GuestRow → Deciding Hosted
+abbrev pub comes_to : IncomingRow → Deciding Hosted
 comes_to row = no_session_moves (Handles row)
 
 -- nothing comes of a reply that no book gives to the call
@@ -69,14 +69,14 @@ abbrev pub passes_over : Deciding Hosted
 passes_over = no_session_moves Waits
 
 -- what was read is gone on with, and the book may be asked
-abbrev pub unless_unread : {X : Type 0} → GuestArrival → Result X BytesFault → (X → Deciding Hosted) → Deciding Hosted
+abbrev pub unless_unread : {X : Type 0} → IncomingArrival → Result X BytesFault → (X → Deciding Hosted) → Deciding Hosted
 unless_unread a (Ok x) next = next x
 unless_unread a (Err why) next = comes_to (refuses_bytes a why [])
 
 -- ---- CLIENT_IDENT
 
 -- what a session's ticket gives from now on
-abbrev pub admission_of : GuestArrival → Authority → ℕ → ℕ → ℕ → Admitted
+abbrev pub admission_of : IncomingArrival → Authority → ℕ → ℕ → ℕ → Admitted
 admission_of a owner number epoch cookie = record {
   daemon = a.own.name;
   session = number;
@@ -94,20 +94,20 @@ served_as owner number epoch cookie lossy =
     record { number = number; epoch = epoch; cookie = cookie; lossy = lossy; caps = owner.ticket.caps }
 
 -- the cookie that is drawn for a session
-abbrev pub cookie_drawn : GuestArrival → SealEntry
+abbrev pub cookie_drawn : IncomingArrival → SealEntry
 cookie_drawn a = Drawn (draw.Cookie (cookie_of a.draw))
 
 -- a session that was admitted is entered, SERVER_IDENT is sent with the drawn cookie, and the link is open
-abbrev pub admits : GuestArrival → Secured → Authority → ClientIdent → ℕ → ℕ → GuestRow
+abbrev pub admits : IncomingArrival → Secured → Authority → ClientIdent → ℕ → ℕ → IncomingRow
 admits a s owner ident number epoch =
     entered_before (entry.Admitted (admission_of a owner number epoch ident.cookie))
     (sends_secure a s (λ behind. Open behind (served_as owner number epoch ident.cookie (is_lossy ident.flags)))
     (cookie_drawn a ∷ []) (server_ident a.own.address (lossy_flags (is_lossy ident.flags)) (cookie_of a.draw)))
 
-abbrev pub refuses_admission : GuestArrival → Reason → Deciding Hosted
+abbrev pub refuses_admission : IncomingArrival → Reason → Deciding Hosted
 refuses_admission a why = comes_to (refuses a why (cookie_drawn a ∷ []))
 
-abbrev pub on_admission : GuestArrival → Secured → Authority → ClientIdent → BookReply → Deciding Hosted
+abbrev pub on_admission : IncomingArrival → Secured → Authority → ClientIdent → BookReply → Deciding Hosted
 on_admission a s owner ident (reply.Admitted number epoch) = comes_to (admits a s owner ident number epoch)
 on_admission a s owner ident (reply.Refused (fault.CookieInUse number)) = refuses_admission a (reason.Session (session.CookieInUse number))
 on_admission a s owner ident (reply.Refused (fault.BookFull limit)) = refuses_admission a (reason.Session session.BookFull)
@@ -115,11 +115,11 @@ on_admission a s owner ident (reply.Refused fault.Spent) = refuses_admission a r
 on_admission a s owner ident _ = passes_over
 
 -- a cookie is drawn, and the book is asked to admit a session, lossy where the client says so
-abbrev pub asks_admission : GuestArrival → Secured → Authority → ClientIdent → Deciding Hosted
+abbrev pub asks_admission : IncomingArrival → Secured → Authority → ClientIdent → Deciding Hosted
 asks_admission a s owner ident =
     Asking (Admit owner ident.cookie (cookie_of a.draw) ident.global_seq (is_lossy ident.flags)) (on_admission a s owner ident)
 
-abbrev pub on_client_ident : GuestArrival → Secured → Authority → Result ClientIdent BytesFault → Deciding Hosted
+abbrev pub on_client_ident : IncomingArrival → Secured → Authority → Result ClientIdent BytesFault → Deciding Hosted
 on_client_ident a s owner read = unless_unread a read (λ ident.
     if ident.required == 0 then asks_admission a s owner ident else comes_to (misses a s ident.required))
 
@@ -137,18 +137,18 @@ abbrev pub session_retry_global : ℕ → Frame
 session_retry_global kept = control 14 session_retry_global_layout.form (record { global_seq = kept })
 
 -- a session that was resumed is entered, SESSION_RECONNECT_OK is sent, and the link is open
-abbrev pub resumes : GuestArrival → Secured → Authority → SessionReconnect → ℕ → ℕ → ℕ → Bool → GuestRow
+abbrev pub resumes : IncomingArrival → Secured → Authority → SessionReconnect → ℕ → ℕ → ℕ → Bool → IncomingRow
 resumes a s owner reconnect number epoch last lossy =
     entered_before (entry.Resumed (admission_of a owner number epoch reconnect.client_cookie))
     (sends_secure a s (λ behind. Open behind (served_as owner number epoch reconnect.client_cookie lossy)) [] (reconnect_ok last))
 
 -- why it wasn't is entered and told by a frame, and the link waits on
-abbrev pub tells_why : GuestArrival → Secured → Authority → Reason → Frame → Deciding Hosted
+abbrev pub tells_why : IncomingArrival → Secured → Authority → Reason → Frame → Deciding Hosted
 tells_why a s owner why f =
     comes_to (entered_before (refused_entry a.me a.link.number why) (sends_secure a s (λ behind. AwaitsIdent behind owner) [] f))
 
 -- a session that moved to this link has the older ones shut
-abbrev pub on_resumption : GuestArrival → Secured → Authority → SessionReconnect → BookReply → Deciding Hosted
+abbrev pub on_resumption : IncomingArrival → Secured → Authority → SessionReconnect → BookReply → Deciding Hosted
 on_resumption a s owner reconnect (reply.Resumed number epoch last lossy) =
     Finished (record { turned = Handles (resumes a s owner reconnect number epoch last lossy); moved = Some number })
 on_resumption a s owner reconnect (reply.Refused fault.Unknown) = tells_why a s owner (reason.Session session.UnknownSession) session_reset
@@ -162,13 +162,13 @@ on_resumption a s owner reconnect (reply.Refused (fault.StaleGlobal kept)) =
 on_resumption a s owner reconnect _ = passes_over
 
 -- the book is asked to resume the session of both cookies
-abbrev pub on_reconnect : GuestArrival → Secured → Authority → Result SessionReconnect BytesFault → Deciding Hosted
+abbrev pub on_reconnect : IncomingArrival → Secured → Authority → Result SessionReconnect BytesFault → Deciding Hosted
 on_reconnect a s owner read = unless_unread a read (λ reconnect.
     Asking (Resume owner reconnect.client_cookie reconnect.server_cookie reconnect.global_seq reconnect.connect_seq)
     (on_resumption a s owner reconnect))
 
 -- a frame behind the peer's signature
-abbrev pub on_ident : GuestArrival → Secured → Authority → Frame → Deciding Hosted
+abbrev pub on_ident : IncomingArrival → Secured → Authority → Frame → Deciding Hosted
 on_ident a s owner f =
     if f.tag == 8 then on_client_ident a s owner (payload client_ident_layout.form f)
     else if f.tag == 11 then on_reconnect a s owner (payload session_reconnect_layout.form f)
@@ -214,7 +214,7 @@ abbrev pub answer_message : Instruction → Outcome → Frame
 answer_message i outcome = message (record { seq = 0; tid = i.tid; type_ = 43 })
     (answer_layout.form.text (record { outcome = outcome_number outcome; bytes = answer_data i.operation outcome }))
 
-abbrev pub handled_entry : GuestArrival → Served → Instruction → Outcome → Entry
+abbrev pub handled_entry : IncomingArrival → Served → Instruction → Outcome → Entry
 handled_entry a served i outcome = entry.Handled (record {
   daemon = a.own.name;
   session = served.number;
@@ -226,34 +226,34 @@ handled_entry a served i outcome = entry.Handled (record {
 })
 
 -- an operation that was taken is entered; the answer and ACK are sent in one piece
-abbrev pub handles : GuestArrival → Secured → Served → Instruction → Outcome → GuestRow
+abbrev pub handles : IncomingArrival → Secured → Served → Instruction → Outcome → IncomingRow
 handles a s served i outcome =
     entered_before (handled_entry a served i outcome)
     (secure_sent a s (λ behind. Open behind served) [] (secure_frames s.keys (answer_message i outcome ∷ acknowledgement i.seq ∷ [])))
 
 -- a message that isn't the next one: one that was taken before is acknowledged again, and nothing is entered; any other is refused
-abbrev pub on_untaken : GuestArrival → Secured → Served → BookReply → Deciding Hosted
+abbrev pub on_untaken : IncomingArrival → Secured → Served → BookReply → Deciding Hosted
 on_untaken a s served (reply.Refused (fault.Repeat last)) = comes_to (sends_secure a s (λ behind. Open behind served) [] (acknowledgement last))
 on_untaken a s served (reply.Refused (fault.Gap expected)) = comes_to (refuses a (reason.Session (session.Gap expected)) [])
 on_untaken a s served (reply.Refused (fault.Stale epoch)) = comes_to (refuses a (reason.Session (session.Stale epoch)) [])
 on_untaken a s served _ = passes_over
 
-abbrev pub on_taken : Handlers → GuestArrival → Secured → Served → Instruction → BookReply → Deciding Hosted
+abbrev pub on_taken : Handlers → IncomingArrival → Secured → Served → Instruction → BookReply → Deciding Hosted
 on_taken handlers a s served i reply.Fine = comes_to (handles a s served i (outcome_of handlers served.caps i.operation))
 on_taken handlers a s served i other = on_untaken a s served other
 
 -- the next message is taken
-abbrev pub on_checked : Handlers → GuestArrival → Secured → Served → Instruction → BookReply → Deciding Hosted
+abbrev pub on_checked : Handlers → IncomingArrival → Secured → Served → Instruction → BookReply → Deciding Hosted
 on_checked handlers a s served i reply.Fine = Asking (Take served.number served.epoch i.seq) (on_taken handlers a s served i)
 on_checked handlers a s served i other = on_untaken a s served other
 
 -- the book is asked whether it is the next one; a body that can't be read goes before that
-abbrev pub on_message : Handlers → GuestArrival → Secured → Served → Result Instruction BytesFault → Deciding Hosted
+abbrev pub on_message : Handlers → IncomingArrival → Secured → Served → Result Instruction BytesFault → Deciding Hosted
 on_message handlers a s served read = unless_unread a read (λ i.
     Asking (Check served.number served.epoch i.seq) (on_checked handlers a s served i))
 
 -- a frame on an open link: a keepalive, as ever, or a message
-abbrev pub on_open : Handlers → GuestArrival → Secured → Served → Frame → Deciding Hosted
+abbrev pub on_open : Handlers → IncomingArrival → Secured → Served → Frame → Deciding Hosted
 on_open handlers a s served f =
     if f.tag == 18 then comes_to (on_keepalive a s (λ behind. Open behind served) (payload keepalive2_layout.form f))
     else if f.tag == 19 then comes_to (on_keepalive_ack a s (λ behind. Open behind served) (payload keepalive2_ack_layout.form f))
@@ -261,7 +261,7 @@ on_open handlers a s served f =
 
 -- ---- a turn
 
-abbrev pub turned_behind : List SealEntry → Turned Asker GuestStage → Turned Asker GuestStage
+abbrev pub turned_behind : List SealEntry → Turned MonClient IncomingStage → Turned MonClient IncomingStage
 turned_behind opened Waits = Waits
 turned_behind opened (Refuses why broken) = Refuses why broken
 turned_behind opened (Handles row) = Handles (with_opened opened row)
@@ -276,14 +276,14 @@ decided_by decide (Broken why opened) = no_session_moves (Refuses why opened)
 decided_by decide (Next x opened) = asks_map (hosted_behind opened) (decide x)
 
 -- by the stage of the link
-abbrev pub guest_turned : Handlers → GuestArrival → GuestStage → Deciding Hosted
-guest_turned handlers a AwaitsBanner = no_session_moves (turned_by (λ link _. on_banner a.own.name.kind (at a link)) (banner_next a.link))
-guest_turned handlers a AwaitsHello = no_session_moves (turned_by (λ (link, f) _. on_hello (at a link) (due 1 hello_layout.form f)) (plain_next a.link))
-guest_turned handlers a AwaitsRequest =
+abbrev pub incoming_turned : Handlers → IncomingArrival → IncomingStage → Deciding Hosted
+incoming_turned handlers a AwaitsBanner = no_session_moves (turned_by (λ link _. on_banner a.own.name.kind (at a link)) (banner_next a.link))
+incoming_turned handlers a AwaitsHello = no_session_moves (turned_by (λ (link, f) _. on_hello (at a link) (due 1 hello_layout.form f)) (plain_next a.link))
+incoming_turned handlers a AwaitsRequest =
     no_session_moves (turned_by (λ (link, f) _. on_auth_request on_first (at a link) (due 2 auth_request_layout.form f)) (plain_next a.link))
-guest_turned handlers a (AwaitsProof awaited) =
+incoming_turned handlers a (AwaitsProof awaited) =
     no_session_moves (turned_by (λ (link, f) _. on_auth_request_more (at a link) awaited (due 5 auth_request_more_layout.form f)) (plain_next a.link))
-guest_turned handlers a (AwaitsSignature s owner) =
+incoming_turned handlers a (AwaitsSignature s owner) =
     no_session_moves (turned_by (λ (link, f, keys) opened. with_opened opened (on_signature (at a link) (under s keys) owner (due 7 auth_signature_layout.form f))) (secure_next s.keys a.link))
-guest_turned handlers a (AwaitsIdent s owner) = decided_by (λ (link, f, keys). on_ident (at a link) (under s keys) owner f) (secure_next s.keys a.link)
-guest_turned handlers a (Open s served) = decided_by (λ (link, f, keys). on_open handlers (at a link) (under s keys) served f) (secure_next s.keys a.link)
+incoming_turned handlers a (AwaitsIdent s owner) = decided_by (λ (link, f, keys). on_ident (at a link) (under s keys) owner f) (secure_next s.keys a.link)
+incoming_turned handlers a (Open s served) = decided_by (λ (link, f, keys). on_open handlers (at a link) (under s keys) served f) (secure_next s.keys a.link)

@@ -24,7 +24,7 @@ pub mod Complete
 pub mod DaemonRule
 pub mod Envelopes
 pub mod Forgets
-pub mod Guests
+pub mod IncomingLinks
 pub mod Hosting
 pub mod Kinds
 pub mod Lossy

@@ -46,7 +46,7 @@ use Rattle.cx_authorize.specs.cx_wire.specs.declared.authorizers.AuthorizeReply 
 use Rattle.cx_rules.specs.Connector.{client_ident}
 use Rattle.cx_rules.specs.Fronts.{banner_next, plain_next, secure_next}
 use Rattle.cx_rules.specs.Greetings.{own_hello}
-use Rattle.cx_rules.specs.Holdings.{Asker}
+use Rattle.cx_rules.specs.Holdings.{MonClient}
 use Rattle.cx_rules.specs.Messages.{Message, message_in, on_upkeep_or, secure_frames}
 use Rattle.cx_rules.specs.Payloads.{control, due, payload, whole}
 use Rattle.cx_rules.specs.Rows.{Arrival, Row, Turned, at, goes_on, refused_entry, refuses, refuses_bytes, secure_sent, sends_plain, sends_secure, turned_by, unless_refused, with_opened}
@@ -61,7 +61,7 @@ use Rattle.cx_rules_session.specs.Sessions.{Called, Callee, HeldSession, acknowl
 
 -- what a client is to its link to one daemon: itself as one that asks the monitor, and its session with that daemon
 pub record Caller : Type 0 where
-  pub asker : Asker
+  pub mon_client : MonClient
   pub session : Option HeldSession
 
 -- how far a link to a daemon has come: what it waits for. A number is the client's cookie of the session that the link is for
@@ -100,16 +100,16 @@ holding_session a session = record a { own = record a.own { session = session } 
 
 -- the peer's banner: HELLO is sent
 abbrev pub on_banner : CallArrival → Called → CallRow
-on_banner a called = sends_plain a (AwaitsHello called) [] (own_hello a.own.asker.name.kind)
+on_banner a called = sends_plain a (AwaitsHello called) [] (own_hello a.own.mon_client.name.kind)
 
 -- what is shown with a nonce: the ticket of the daemon's service and the global id that are held now; where no such ticket is held any more,
 -- those with which the link was asked for
-abbrev pub presented_by : Called → Asker → Option Held → ℕ → Presented
-presented_by called asker (Some held) nonce = record { held = held; gid = held_gid asker.holdings; nonce = nonce }
-presented_by called asker None nonce = record { held = called.held; gid = called.gid; nonce = nonce }
+abbrev pub presented_by : Called → MonClient → Option Held → ℕ → Presented
+presented_by called mon_client (Some held) nonce = record { held = held; gid = held_gid mon_client.holdings; nonce = nonce }
+presented_by called mon_client None nonce = record { held = called.held; gid = called.gid; nonce = nonce }
 
-abbrev pub presented : Called → Asker → ℕ → Presented
-presented called asker nonce = presented_by called asker (ticket_for called.callee.daemon.kind asker.holdings) nonce
+abbrev pub presented : Called → MonClient → ℕ → Presented
+presented called mon_client nonce = presented_by called mon_client (ticket_for called.callee.daemon.kind mon_client.holdings) nonce
 
 -- an authorizer: it shows the ticket, and under its session key the nonce, and the daemon's challenge plus one where that is answered
 abbrev pub authorizer_bytes : Presented → Option ℕ → List ℕ
@@ -117,17 +117,17 @@ authorizer_bytes p challenge =
     authorizer_layout.form.text (authorizer_of p.held p.gid (sealed p.held.session (authorize_content p.nonce challenge)))
 
 -- AUTH_REQUEST with the first authorizer: method 2, cephx, and the modes
-abbrev pub first_frame : Asker → Presented → Frame
-first_frame asker p = control 2 auth_request_layout.form (record { method = 2; modes = asker.modes; payload = authorizer_bytes p None })
+abbrev pub first_frame : MonClient → Presented → Frame
+first_frame mon_client p = control 2 auth_request_layout.form (record { method = 2; modes = mon_client.modes; payload = authorizer_bytes p None })
 
 -- a nonce is drawn, and the ticket shown
 abbrev pub presents : CallArrival → Callee → Presented → CallRow
 presents a callee p =
     sends_holding a (AwaitsChallenge callee p) (Drawn (draw.Nonce p.nonce) ∷ [])
-    (session_sealed p.held.session (authorize_content p.nonce None) ∷ []) (first_frame a.own.asker p)
+    (session_sealed p.held.session (authorize_content p.nonce None) ∷ []) (first_frame a.own.mon_client p)
 
 abbrev pub on_hello : CallArrival → Called → Result Hello BytesFault → CallRow
-on_hello a called read = unless_refused a [] read (λ hello. presents a called.callee (presented called a.own.asker (challenge_of a.draw)))
+on_hello a called read = unless_refused a [] read (λ hello. presents a called.callee (presented called a.own.mon_client (challenge_of a.draw)))
 
 -- ---- AUTH_REPLY_MORE
 
@@ -190,7 +190,7 @@ abbrev pub identifies : CallArrival → Secured → Callee → List SealEntry �
 identifies a s callee before =
     let cookie = cookie_of a.draw in
     sends_secure a s (λ behind. AwaitsIdent behind callee cookie) (before ++ Drawn (draw.Cookie cookie) ∷ [])
-    (client_ident a.own.asker (held_gid a.own.asker.holdings) (lossy_flags callee.lossy) cookie)
+    (client_ident a.own.mon_client (held_gid a.own.mon_client.holdings) (lossy_flags callee.lossy) cookie)
 
 -- the session and what waits in it are forgotten, which is entered, and another one is asked for
 abbrev pub resets : CallArrival → Secured → Callee → List SealEntry → CallRow
@@ -201,7 +201,7 @@ resets a s callee before =
 abbrev pub reconnects : CallArrival → Secured → Callee → List SealEntry → HeldSession → CallRow
 reconnects a s callee before session =
     sends_secure (holding_session a (Some session)) s (λ behind. AwaitsReconnect behind callee session.client_cookie) before
-    (session_reconnect a.own.asker session)
+    (session_reconnect a.own.mon_client session)
 
 -- a session that is held is taken up again, once more than before; behind the last time it is as if it was reset
 abbrev pub takes_up : CallArrival → Secured → Callee → List SealEntry → HeldSession → CallRow
@@ -256,7 +256,7 @@ on_retry a s callee read = unless_refused a [] read (λ retry. retries a s calle
 
 -- with another count of connections
 abbrev pub counting : CallArrival → ℕ → CallArrival
-counting a global = record a { own = record a.own { asker = record a.own.asker { global_seq = global } } }
+counting a global = record a { own = record a.own { mon_client = record a.own.mon_client { global_seq = global } } }
 
 -- the same with the client's count of connections
 abbrev pub retries_global : CallArrival → Secured → Callee → ℕ → Option HeldSession → CallRow
@@ -287,14 +287,14 @@ abbrev pub end_in : Result Message BytesFault → Result OperationEnd BytesFault
 end_in (Err why) = Err why
 end_in (Ok m) = if m.header.type_ == 43 then end_by m (whole answer_layout.form m.body) else Err (Unexpected 17)
 
-abbrev pub answered_entry : Asker → Callee → ℕ → OperationEnd → Entry
-answered_entry asker callee cookie end =
-    entry.Answered (record { client = asker.name; daemon = callee.daemon; cookie = cookie; tid = end.tid; outcome = end.outcome })
+abbrev pub answered_entry : MonClient → Callee → ℕ → OperationEnd → Entry
+answered_entry mon_client callee cookie end =
+    entry.Answered (record { client = mon_client.name; daemon = callee.daemon; cookie = cookie; tid = end.tid; outcome = end.outcome })
 
 -- the answer is entered
 abbrev pub on_answer : CallArrival → Secured → Callee → ℕ → Result OperationEnd BytesFault → CallRow
 on_answer a s callee cookie read = unless_refused a [] read (λ end.
-    entered_before (answered_entry a.own.asker callee cookie end) (goes_on a (Open s callee cookie) [] []))
+    entered_before (answered_entry a.own.mon_client callee cookie end) (goes_on a (Open s callee cookie) [] []))
 
 -- what was acknowledged doesn't wait any more
 abbrev pub acknowledges : CallArrival → Secured → Callee → ℕ → ℕ → Option HeldSession → CallRow

@@ -10,7 +10,7 @@ use Rattle.cx_rules.specs.cx_frame.specs.declared.frame.Frame.{Frame}
 use Rattle.cx_rules.specs.cx_login.specs.Held.{Held}
 use Rattle.cx_session.specs.Queue.{Queue, acknowledged, empty_queue}
 use Rattle.cx_authorize.specs.cx_wire.specs.Operations.{operation_layout}
-use Rattle.cx_rules.specs.Holdings.{Asker, Holdings}
+use Rattle.cx_rules.specs.Holdings.{MonClient, Holdings}
 use Rattle.cx_rules.specs.Messages.{message}
 use Rattle.cx_rules.specs.Payloads.{control}
 
@@ -93,12 +93,12 @@ is_unacknowledged None = false
 -- ---- frames
 
 -- SESSION_RECONNECT: one's address, both cookies, one's count of connections, and how often the session was taken up again
-abbrev pub session_reconnect : Asker → HeldSession → Frame
-session_reconnect asker session = control 11 session_reconnect_layout.form (record {
-  addr = asker.address;
+abbrev pub session_reconnect : MonClient → HeldSession → Frame
+session_reconnect mon_client session = control 11 session_reconnect_layout.form (record {
+  addr = mon_client.address;
   client_cookie = session.client_cookie;
   server_cookie = session.server_cookie;
-  global_seq = asker.global_seq;
+  global_seq = mon_client.global_seq;
   connect_seq = session.connect_seq;
   msg_seq = 0;
 })

@@ -29,9 +29,9 @@ ghost use Rattle.cx_rules.specs.Messages.{acknowledgement};
 ghost use Rattle.cx_rules.specs.Requests.{Requests, first_open, request_message};
 ghost use Rattle.cx_rules.specs.Secured.{Secured, acceptor_keys};
 ghost use Rattle.cx_rules_session.specs.ClientRule.{ClientStage, WholeClientNode, first_call, sent_entry, whole_client_rule};
-ghost use Rattle.cx_rules_session.specs.Complete.{EntersFirst, HasCounters, IsGood, judged_by, HasOpenCall, HasOpenLink, IsAdmissible, IsFetchDue, IsFetched, IsFirstPassed, IsResumable, IsSecondPassed, IsSendable, IsServable, IsSizedOperation, IsSigned, IsFetchReply, SaysAndShutsOthers, SaysAndStays, both_sealed, covered_bytes, guest_arrival, sealed_bytes, signature_frame};
+ghost use Rattle.cx_rules_session.specs.Complete.{EntersFirst, HasCounters, IsGood, judged_by, HasOpenCall, HasOpenLink, IsAdmissible, IsFetchDue, IsFetched, IsFirstPassed, IsResumable, IsSecondPassed, IsSendable, IsServable, IsSizedOperation, IsSigned, IsFetchReply, SaysAndShutsOthers, SaysAndStays, both_sealed, covered_bytes, incoming_arrival, sealed_bytes, signature_frame};
 ghost use Rattle.cx_rules_session.specs.DaemonRule.{DaemonStage, DaemonState, asking_open, daemon_step, is_fetching};
-ghost use Rattle.cx_rules_session.specs.Guests.{GuestStage, Served, authorized_frame, sealed_challenge_frame, looked_entry};
+ghost use Rattle.cx_rules_session.specs.IncomingLinks.{IncomingStage, Served, authorized_frame, sealed_challenge_frame, looked_entry};
 ghost use Rattle.cx_rules_session.specs.Hosting.{Instruction, admission_of, answer_message, handled_entry, reconnect_ok};
 ghost use Rattle.cx_rules_session.specs.Lossy.{is_lossy, lossy_flags};
 ghost use Rattle.cx_rules_session.specs.Sessions.{Callee, HeldSession, operation_message};
@@ -39,16 +39,16 @@ ghost use Rattle.cx_rules_session.specs.Sessions.{Callee, HeldSession, operation
 /// What a daemon answers an authorizer that passes.
 pub fn authorizing_laws()
     // The first one: AUTH_REPLY_MORE with a challenge.
-    ensures welcomes { (handlers : Handlers) (d : DaemonState) (reading : ℕ) (draw : List ℕ) (link : Link GuestStage) (ticket : ServiceTicket) → IsFirstPassed d link reading ticket
-        → SaysAndStays link.number (frame_text (sealed_challenge_frame ticket.session (challenge_of draw))) (looked_entry (guest_arrival d link AwaitsRequest reading draw) ∷ [])
+    ensures welcomes { (handlers : Handlers) (d : DaemonState) (reading : ℕ) (draw : List ℕ) (link : Link IncomingStage) (ticket : ServiceTicket) → IsFirstPassed d link reading ticket
+        → SaysAndStays link.number (frame_text (sealed_challenge_frame ticket.session (challenge_of draw))) (looked_entry (incoming_arrival d link AwaitsRequest reading draw) ∷ [])
         (daemon_step handlers d (Turn link.number) reading draw).out }
     // The second one: AUTH_DONE with the secret of the connection, and AUTH_SIGNATURE behind it.
-    ensures authorizes { (handlers : Handlers) (d : DaemonState) (reading : ℕ) (draw : List ℕ) (link : Link GuestStage) (awaited : Awaited) (ticket : ServiceTicket) (nonce : ℕ)
+    ensures authorizes { (handlers : Handlers) (d : DaemonState) (reading : ℕ) (draw : List ℕ) (link : Link IncomingStage) (awaited : Awaited) (ticket : ServiceTicket) (nonce : ℕ)
         → (passed : IsSecondPassed d link awaited reading ticket nonce) → length draw ≡ 384
         → SaysAndStays link.number
         (frame_text (authorized_frame ticket nonce (connection_of draw))
         ++ sealed_bytes (acceptor_keys (connection_of draw)) (signature_frame ticket.session (covered_bytes link passed.stands.size)))
-        (looked_entry (guest_arrival d link (AwaitsProof awaited) reading draw) ∷ []) (daemon_step handlers d (Turn link.number) reading draw).out }
+        (looked_entry (incoming_arrival d link (AwaitsProof awaited) reading draw) ∷ []) (daemon_step handlers d (Turn link.number) reading draw).out }
     // Those pass that a holder of a ticket makes as it was issued, at a daemon that has its generation, while it is live.
     ensures passes_first { (kind : EntityType) (view : View) (reading : ℕ) (ticket : ServiceTicket) (nonce : ℕ) (bytes : List ℕ) → IsGood kind view reading None ticket nonce bytes
         → judged_by (λ shown. shown.ticket) (judged_first kind view reading bytes).value ≡ Ok ticket }
@@ -57,37 +57,37 @@ pub fn authorizing_laws()
         → judged_by {Y = ServiceTicket × ℕ} (λ shown. (shown.ticket, shown.authorize.nonce)) (judged_second awaited view reading bytes).value ≡ Ok (ticket, nonce) }
 {}
 
-/// What a daemon answers its guests.
+/// What a daemon answers its clients.
 pub fn hosting_laws()
     // CLIENT_IDENT of a cookie that is free, where there is a place: the session is admitted, and SERVER_IDENT is sent.
-    ensures opens { (handlers : Handlers) (d : DaemonState) (reading : ℕ) (draw : List ℕ) (link : Link GuestStage) (s : Secured) (owner : Authority) (ident : ClientIdent)
-        → IsAdmissible d link s owner ident → length d.node.own.asker.address.ip ≡ 4 → HasCounters s.keys 1
-        → SaysAndStays link.number (sealed_bytes s.keys (server_ident d.node.own.asker.address (lossy_flags (is_lossy ident.flags)) (cookie_of draw)))
-        (entry.Admitted (admission_of (guest_arrival d link (AwaitsIdent s owner) reading draw) owner d.book.next 1 ident.cookie) ∷ [])
+    ensures opens { (handlers : Handlers) (d : DaemonState) (reading : ℕ) (draw : List ℕ) (link : Link IncomingStage) (s : Secured) (owner : Authority) (ident : ClientIdent)
+        → IsAdmissible d link s owner ident → length d.node.own.mon_client.address.ip ≡ 4 → HasCounters s.keys 1
+        → SaysAndStays link.number (sealed_bytes s.keys (server_ident d.node.own.mon_client.address (lossy_flags (is_lossy ident.flags)) (cookie_of draw)))
+        (entry.Admitted (admission_of (incoming_arrival d link (AwaitsIdent s owner) reading draw) owner d.book.next 1 ident.cookie) ∷ [])
         (daemon_step handlers d (Turn link.number) reading draw).out }
     // SESSION_RECONNECT that the book resumes: that is entered, and SESSION_RECONNECT_OK is sent.
-    ensures takes_up { (handlers : Handlers) (d : DaemonState) (reading : ℕ) (draw : List ℕ) (link : Link GuestStage) (s : Secured) (owner : Authority) (reconnect : SessionReconnect)
+    ensures takes_up { (handlers : Handlers) (d : DaemonState) (reading : ℕ) (draw : List ℕ) (link : Link IncomingStage) (s : Secured) (owner : Authority) (reconnect : SessionReconnect)
         (number epoch last : ℕ) (lossy : Bool) → IsResumable d link s owner reconnect number epoch last lossy → HasCounters s.keys 1
         → SaysAndShutsOthers link.number (sealed_bytes s.keys (reconnect_ok last))
-        (entry.Resumed (admission_of (guest_arrival d link (AwaitsIdent s owner) reading draw) owner number epoch reconnect.client_cookie) ∷ [])
+        (entry.Resumed (admission_of (incoming_arrival d link (AwaitsIdent s owner) reading draw) owner number epoch reconnect.client_cookie) ∷ [])
         (daemon_step handlers d (Turn link.number) reading draw).out }
     // The next operation of a session, which its capabilities allow and which has a handler: it is done, and answered and acknowledged.
-    ensures serves { (handlers : Handlers) (d : DaemonState) (reading : ℕ) (draw : List ℕ) (link : Link GuestStage) (s : Secured) (served : Served) (i : Instruction)
+    ensures serves { (handlers : Handlers) (d : DaemonState) (reading : ℕ) (draw : List ℕ) (link : Link IncomingStage) (s : Secured) (served : Served) (i : Instruction)
         → IsServable handlers d link s served i → length (answer_of i.operation.access i.operation) ≤ 65536 → HasCounters s.keys 2
-        → SaysAndStays link.number (both_sealed s.keys (answer_message i Done) (acknowledgement i.seq)) (handled_entry (guest_arrival d link (Open s served) reading draw) served i Done ∷ [])
+        → SaysAndStays link.number (both_sealed s.keys (answer_message i Done) (acknowledgement i.seq)) (handled_entry (incoming_arrival d link (Open s served) reading draw) served i Done ∷ [])
         (daemon_step handlers d (Turn link.number) reading draw).out }
     // A session is entered as admitted or resumed, and an operation as done, first of all, whatever counters are left.
-    ensures opens_first { (handlers : Handlers) (d : DaemonState) (reading : ℕ) (draw : List ℕ) (link : Link GuestStage) (s : Secured) (owner : Authority) (ident : ClientIdent)
+    ensures opens_first { (handlers : Handlers) (d : DaemonState) (reading : ℕ) (draw : List ℕ) (link : Link IncomingStage) (s : Secured) (owner : Authority) (ident : ClientIdent)
         → IsAdmissible d link s owner ident
-        → EntersFirst (entry.Admitted (admission_of (guest_arrival d link (AwaitsIdent s owner) reading draw) owner d.book.next 1 ident.cookie))
+        → EntersFirst (entry.Admitted (admission_of (incoming_arrival d link (AwaitsIdent s owner) reading draw) owner d.book.next 1 ident.cookie))
         (daemon_step handlers d (Turn link.number) reading draw).out }
-    ensures takes_up_first { (handlers : Handlers) (d : DaemonState) (reading : ℕ) (draw : List ℕ) (link : Link GuestStage) (s : Secured) (owner : Authority) (reconnect : SessionReconnect)
+    ensures takes_up_first { (handlers : Handlers) (d : DaemonState) (reading : ℕ) (draw : List ℕ) (link : Link IncomingStage) (s : Secured) (owner : Authority) (reconnect : SessionReconnect)
         (number epoch last : ℕ) (lossy : Bool) → IsResumable d link s owner reconnect number epoch last lossy
-        → EntersFirst (entry.Resumed (admission_of (guest_arrival d link (AwaitsIdent s owner) reading draw) owner number epoch reconnect.client_cookie))
+        → EntersFirst (entry.Resumed (admission_of (incoming_arrival d link (AwaitsIdent s owner) reading draw) owner number epoch reconnect.client_cookie))
         (daemon_step handlers d (Turn link.number) reading draw).out }
-    ensures serves_first { (handlers : Handlers) (d : DaemonState) (reading : ℕ) (draw : List ℕ) (link : Link GuestStage) (s : Secured) (served : Served) (i : Instruction)
+    ensures serves_first { (handlers : Handlers) (d : DaemonState) (reading : ℕ) (draw : List ℕ) (link : Link IncomingStage) (s : Secured) (served : Served) (i : Instruction)
         → IsServable handlers d link s served i
-        → EntersFirst (handled_entry (guest_arrival d link (Open s served) reading draw) served i Done) (daemon_step handlers d (Turn link.number) reading draw).out }
+        → EntersFirst (handled_entry (incoming_arrival d link (Open s served) reading draw) served i Done) (daemon_step handlers d (Turn link.number) reading draw).out }
 {}
 
 /// That a daemon asks for generations once they are outdated, and takes them.
@@ -115,5 +115,5 @@ pub fn sending_laws()
         → EntersFirst (sent_entry c.own session (session.queue.last + 1) operation) (whole_client_rule c (Submit (Send daemon operation)) reading draw).out }
     // Behind the monitor's right signature the login is held.
     ensures holds { (c : WholeClientNode) (link : Link connector.Stage) (s : Secured) (login : Login) (reading : ℕ) (draw : List ℕ) → IsSigned c link s login
-        → (whole_client_rule c (Turn link.number) reading draw).state.own.asker.holdings ≡ held_login c.own.asker.holdings login.gid login.opened }
+        → (whole_client_rule c (Turn link.number) reading draw).state.own.mon_client.holdings ≡ held_login c.own.mon_client.holdings login.gid login.opened }
 {}

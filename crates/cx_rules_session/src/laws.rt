@@ -4,7 +4,7 @@ ghost use Rattle.std.specs.Prelude.{◌≡◌, ℕ, List};
 ghost use Rattle.cx_desk.specs.Handlers.{Handlers};
 ghost use Rattle.cx_session.specs.declared.call.BookReply.{BookReply};
 ghost use Rattle.cx_rules.specs.cx_steps.specs.declared.events.Peer.{Peer};
-ghost use Rattle.cx_rules.specs.Holdings.{Asker};
+ghost use Rattle.cx_rules.specs.Holdings.{MonClient};
 ghost use Rattle.cx_rules.specs.Inputs.{Input};
 ghost use Rattle.cx_rules.specs.Rows.{forgotten};
 ghost use Rattle.cx_rules_session.specs.ClientRule as client;
@@ -30,7 +30,7 @@ pub fn daemon_forgetting_laws()
     ensures loses { (m s : DaemonNode) (n : ℕ) → DaemonNodeStandsFor m s → DaemonNodeStandsFor (forgotten m n) (forgotten s n) }
     ensures gives_up { (m s : DaemonNode) → DaemonNodeStandsFor m s → DaemonNodeStandsFor (undialled m) (undialled s) }
     // As it begins, a daemon has forgotten nothing; and what is abridged once can't be abridged further.
-    ensures opening { (asker : Asker) → DaemonNodeStandsFor (opening_daemon asker) (opening_daemon asker) }
+    ensures opening { (mon_client : MonClient) → DaemonNodeStandsFor (opening_daemon mon_client) (opening_daemon mon_client) }
     ensures twice { (d : DaemonNode) → abridged_daemon (abridged_daemon d) ≡ abridged_daemon d }
 {}
 
@@ -42,6 +42,6 @@ pub fn client_forgetting_laws()
     ensures idle { (c s : WholeClientNode) → WholeClientStandsFor c s → client.is_idle c ≡ client.is_idle s }
     ensures loses { (c s : WholeClientNode) (n : ℕ) → WholeClientStandsFor c s → WholeClientStandsFor (forgotten c n) (forgotten s n) }
     ensures gives_up { (c s : WholeClientNode) (peer : Peer) → WholeClientStandsFor c s → WholeClientStandsFor (client.undialled c peer) (client.undialled s peer) }
-    ensures opening { (asker : Asker) → WholeClientStandsFor (opening_whole_client asker) (opening_whole_client asker) }
+    ensures opening { (mon_client : MonClient) → WholeClientStandsFor (opening_whole_client mon_client) (opening_whole_client mon_client) }
     ensures twice { (c : WholeClientNode) → abridged_whole_client (abridged_whole_client c) ≡ abridged_whole_client c }
 {}

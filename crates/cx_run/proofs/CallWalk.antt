@@ -58,7 +58,7 @@ use Rattle.cx_rules_session.specs.cx_wire.specs.Logins.{authorize_challenge_layo
 use Rattle.cx_rules_session.specs.cx_wire.specs.declared.authorizers.AuthorizeChallenge as shown_challenge
 use Rattle.cx_rules_session.specs.cx_wire.specs.declared.authorizers.AuthorizeReply as shown_reply
 use Rattle.cx_run.proofs.Always.{Anything, TurnOf}
-use Rattle.cx_run.proofs.GuestWalk.{IsAhead}
+use Rattle.cx_run.proofs.IncomingWalk.{IsAhead}
 use Rattle.cx_run.proofs.Outcomes.{IsNoTicket}
 use Rattle.cx_run.proofs.Taking.{EachRow, HasBytes, each-row, banner-has, plain-has, secure-has}
 
@@ -74,7 +74,7 @@ OpensWith _ own = ⊥
 -- how a link goes on from a stage, and what is logged there
 pub data CallGoes (a : CallArrival) : CallStage → CallStage → List SealEntry → Type 0 where
   ToHello : (called : Called) → CallGoes a (AwaitsBanner called) (AwaitsHello called) []
-  ToChallenge : (called : Called) (p : Presented) → p ≡ presented called a.own.asker (challenge_of a.draw)
+  ToChallenge : (called : Called) (p : Presented) → p ≡ presented called a.own.mon_client (challenge_of a.draw)
       → CallGoes a (AwaitsHello called) (AwaitsChallenge called.callee p)
       (Drawn (draw.Nonce p.nonce) ∷ session_sealed p.held.session (authorize_content p.nonce None) ∷ [])
   ToDone : (callee : Callee) (p : Presented) (opened : List SealEntry) (asked : AuthorizeChallenge)
@@ -102,7 +102,7 @@ pub data CallHolds : CallStage → Option HeldSession → Option HeldSession →
 pub data CallEnters (a : CallArrival) : CallStage → Entry → Type 0 where
   EntersReset : (before : CallStage) → CallEnters a before (refused_entry a.me a.link.number reason.Reset)
   EntersAnswer : (s : Secured) (callee : Callee) (cookie : ℕ) (end : OperationEnd)
-      → CallEnters a (Open s callee cookie) (answered_entry a.own.asker callee cookie end)
+      → CallEnters a (Open s callee cookie) (answered_entry a.own.mon_client callee cookie end)
 
 -- what closes a property of the rows from a stage
 pub record ClosesCall (before : CallStage) (P : CallArrival → CallRow → Type 0) : Type 0 where
@@ -185,7 +185,7 @@ module _ (P : CallArrival → CallRow → Type 0) (before : CallStage) (c : Clos
 module _ (P : CallArrival → CallRow → Type 0) where
   module _ (a : CallArrival) (called : Called) where
     banner-so : ClosesCall (AwaitsBanner called) P → P a (on_banner a called)
-    banner-so c = by_sent (plain_frame (own_hello a.own.asker.name.kind))
+    banner-so c = by_sent (plain_frame (own_hello a.own.mon_client.name.kind))
       where
         by_sent : (r : Result (List ℕ) BytesFault) → P a (plain_sent a (AwaitsHello called) [] r)
         by_sent (Ok bytes) = c.went a (AwaitsHello called) bytes [] (ToHello called)
@@ -193,12 +193,12 @@ module _ (P : CallArrival → CallRow → Type 0) where
 
     hello-so : ClosesCall (AwaitsHello called) P → (read : Result Hello BytesFault) → P a (on_hello a called read)
     hello-so c (Err why) = c.shut a (reason.Bytes why) [] tt
-    hello-so c (Ok hello) = by_sent (plain_frame (first_frame a.own.asker (presented called a.own.asker (challenge_of a.draw))))
+    hello-so c (Ok hello) = by_sent (plain_frame (first_frame a.own.mon_client (presented called a.own.mon_client (challenge_of a.draw))))
       where
         p : Presented
-        p = presented called a.own.asker (challenge_of a.draw)
+        p = presented called a.own.mon_client (challenge_of a.draw)
 
-        by_sent : (r : Result (List ℕ) BytesFault) → let p = presented called a.own.asker (challenge_of a.draw) in
+        by_sent : (r : Result (List ℕ) BytesFault) → let p = presented called a.own.mon_client (challenge_of a.draw) in
             P a (unless_refused a (Drawn (draw.Nonce p.nonce) ∷ []) r (λ bytes. goes_on a (AwaitsChallenge called.callee p) bytes
             (Drawn (draw.Nonce p.nonce) ∷ session_sealed p.held.session (authorize_content p.nonce None) ∷ [])))
         by_sent (Ok bytes) = c.went a _ bytes _ (ToChallenge called _ refl)

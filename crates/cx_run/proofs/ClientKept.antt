@@ -4,7 +4,7 @@ use Rattle.cx_base.specs.Names.{Name}
 use Rattle.cx_base.specs.declared.operations.Operation.{Operation}
 use Rattle.cx_rules_session.specs.cx_journal.specs.declared.outcomes.Reason.{Reason}
 use Rattle.cx_rules_session.specs.cx_rules.specs.Connector as connector
-use Rattle.cx_rules_session.specs.cx_rules.specs.Holdings.{Asker}
+use Rattle.cx_rules_session.specs.cx_rules.specs.Holdings.{MonClient}
 use Rattle.cx_rules_session.specs.cx_rules.specs.Inputs.{Input, Submit}
 use Rattle.cx_rules_session.specs.cx_rules.specs.Links.{Link}
 use Rattle.cx_rules_session.specs.cx_rules.specs.Requests.{Requests, sealed_request, sends_request}
@@ -12,7 +12,7 @@ use Rattle.cx_rules_session.specs.cx_rules.specs.Rows.{Arrival, Outcome, Turned,
 use Rattle.cx_rules_session.specs.cx_rules.specs.Secured.{SealedFrame, Secured, secure_frame}
 use Rattle.cx_rules_session.specs.cx_rules.specs.declared.requests.Want.{Want}
 use Rattle.cx_rules_session.specs.cx_rules.specs.declared.requests.Want.TheVariants.{Tickets}
-use Rattle.cx_rules_session.specs.ClientRule.{ClientStage, ToMonitor, ToDaemon, WholeClient, WholeClientNode, caller_to, having_session, loses, me, open_to_ask, own_behind_gone, turned_at, whole_client_rule, with_asker, with_caller}
+use Rattle.cx_rules_session.specs.ClientRule.{ClientStage, ToMonitor, ToDaemon, WholeClient, WholeClientNode, caller_to, having_session, loses, me, open_to_ask, own_behind_gone, turned_at, whole_client_rule, with_mon_client, with_caller}
 use Rattle.cx_rules_session.specs.Kinds.{arrival_in, turn_of_kind}
 use Rattle.cx_rules_session.specs.Presenter as call
 use Rattle.cx_rules_session.specs.Presenter.{Caller, CallStage, callee_of}
@@ -21,7 +21,7 @@ use Rattle.cx_rules_session.specs.cx_session.specs.Queue.{pushed}
 use Rattle.cx_rules_session.specs.cx_steps.specs.declared.events.Command.TheVariants as command
 use Rattle.cx_rules_session.specs.cx_steps.specs.declared.events.Peer.TheVariants as peer
 use Rattle.cx_rules_session.specs.cx_wire.specs.declared.bodies.Request.TheVariants as asked
-use Rattle.cx_run.proofs.ClientTakes.{KeepsName, asker-named, asker-takes}
+use Rattle.cx_run.proofs.ClientTakes.{KeepsName, mon_client-named, mon_client-takes}
 use Rattle.cx_run.proofs.Taking.{EachRow, TurnTakes, kind-takes, secure_sent-own}
 use Rattle.cx_run.proofs.CallKeeps.{Leaves, call-takes}
 use Rattle.cx_run.proofs.Outcomes.{EachOutcome, on_link, sent_in, step-keeps}
@@ -31,15 +31,15 @@ use Rattle.cx_run.specs.Calling.{LeadsTo, OpensAsTold}
 
 module _ (c : WholeClientNode) (reading : ℕ) (draw : List ℕ) where
   abbrev Named : Outcome WholeClientNode → Type 0
-  Named o = o.state.own.asker.name ≡ c.own.asker.name
+  Named o = o.state.own.mon_client.name ≡ c.own.mon_client.name
 
-  asks-named : (link : Link ClientStage) (stage : connector.Stage) → Named (turns c (on_link c reading draw link) (turn_of_kind (with_asker c.own) ToMonitor
-      (connector.turned_at (arrival_in (on_link c reading draw link) c.own.asker stage) stage)))
+  asks-named : (link : Link ClientStage) (stage : connector.Stage) → Named (turns c (on_link c reading draw link) (turn_of_kind (with_mon_client c.own) ToMonitor
+      (connector.turned_at (arrival_in (on_link c reading draw link) c.own.mon_client stage) stage)))
   asks-named link stage =
-      by_turned (connector.turned_at (arrival_in (on_link c reading draw link) c.own.asker stage) stage) (asker-named (arrival_in (on_link c reading draw link) c.own.asker stage) stage)
+      by_turned (connector.turned_at (arrival_in (on_link c reading draw link) c.own.mon_client stage) stage) (mon_client-named (arrival_in (on_link c reading draw link) c.own.mon_client stage) stage)
     where
-      by_turned : (t : Turned Asker connector.Stage) → KeepsName (arrival_in (on_link c reading draw link) c.own.asker stage) t
-          → Named (turns c (on_link c reading draw link) (turn_of_kind (with_asker c.own) ToMonitor t))
+      by_turned : (t : Turned MonClient connector.Stage) → KeepsName (arrival_in (on_link c reading draw link) c.own.mon_client stage) t
+          → Named (turns c (on_link c reading draw link) (turn_of_kind (with_mon_client c.own) ToMonitor t))
       by_turned Waits k = refl
       by_turned (Refuses why opened) k = refl
       by_turned (Handles row) k = k
@@ -52,20 +52,20 @@ module _ (c : WholeClientNode) (reading : ℕ) (draw : List ℕ) where
       by_turned daemon (call.turned_at (arrival_in (on_link c reading draw link) (caller_to daemon c.own) stage) stage)
       (call-takes (arrival_in (on_link c reading draw link) (caller_to daemon c.own) stage) stage).leaves
     where
-      by_turned : (daemon : Name) (t : Turned Caller CallStage) → EachRow (Leaves c.own.asker) t
+      by_turned : (daemon : Name) (t : Turned Caller CallStage) → EachRow (Leaves c.own.mon_client) t
           → Named (turns c (on_link c reading draw link) (turn_of_kind (with_caller daemon c.own) ToDaemon t))
       by_turned daemon Waits k = refl
       by_turned daemon (Refuses why opened) k = refl
-      by_turned daemon (Handles row) k = ap (λ (asker : Asker). asker.name) k.still.1
+      by_turned daemon (Handles row) k = ap (λ (mon_client : MonClient). mon_client.name) k.still.1
 
   loses-named : (link : Link ClientStage) → Named (loses c (Some link))
   loses-named link = by_stage link.stage
     where
-      by_stage : (stage : ClientStage) → (own_behind_gone c.own stage).asker.name ≡ c.own.asker.name
+      by_stage : (stage : ClientStage) → (own_behind_gone c.own stage).mon_client.name ≡ c.own.mon_client.name
       by_stage (ToMonitor stage) = refl
       by_stage (ToDaemon stage) = refl
 
-  request-named : (a : Arrival Asker ClientStage) (s : Secured) (requests : Requests) (want : Want) (sealed : Result SealedFrame Reason)
+  request-named : (a : Arrival MonClient ClientStage) (s : Secured) (requests : Requests) (want : Want) (sealed : Result SealedFrame Reason)
       → (sends_request open_to_ask a s requests want sealed).own.name ≡ a.own.name
   request-named a s requests want (Ok sealed) = refl
   request-named a s requests want (Err why) = refl
@@ -74,7 +74,7 @@ module _ (c : WholeClientNode) (reading : ℕ) (draw : List ℕ) where
       → Named (sent_in c reading draw session operation seq (Some (link, (s, (callee, cookie)))))
   sends-named session operation seq link s callee cookie =
       let behind : WholeClientNode = having_session c (record session { queue = pushed session.queue operation }) in
-      ap (λ (own : WholeClient). own.asker.name)
+      ap (λ (own : WholeClient). own.mon_client.name)
       (secure_sent-own (arrival (me behind.own) behind.own link reading draw) s (λ t. ToDaemon (call.Open t callee cookie)) [] (secure_frame s.keys (operation_message (seq, operation))))
 
   each-named : (input : Input) → EachOutcome c reading draw input Named
@@ -89,14 +89,14 @@ module _ (c : WholeClientNode) (reading : ℕ) (draw : List ℕ) where
     goes = λ number link is. loses-named link;
     logs = λ services. refl;
     renews_there = λ services link s requests is.
-        request-named (arrival (me c.own) c.own.asker link reading draw) s requests Tickets (sealed_request s.keys requests (asked.Tickets services));
+        request-named (arrival (me c.own) c.own.mon_client link reading draw) s requests Tickets (sealed_request s.keys requests (asked.Tickets services));
     dials = λ daemon lossy held is of. refl;
     sends_later = λ daemon session operation seq of. refl;
     sends_there = λ daemon session operation seq link s callee cookie of is. sends-named session operation seq link s callee cookie;
     restarts = refl;
   }
 
-pub whole-named : (c : WholeClientNode) (input : Input) (reading : ℕ) (draw : List ℕ) → (whole_client_rule c input reading draw).state.own.asker.name ≡ c.own.asker.name
+pub whole-named : (c : WholeClientNode) (input : Input) (reading : ℕ) (draw : List ℕ) → (whole_client_rule c input reading draw).state.own.mon_client.name ≡ c.own.mon_client.name
 whole-named c input reading draw = step-keeps c reading draw (Named c reading draw) input (each-named c reading draw input)
 
 -- ---- the links that it opens
@@ -135,8 +135,8 @@ whole-opens c input reading draw = step-keeps c reading draw (λ o. OpensAsTold 
 pub whole-takes : (c : WholeClientNode) (reading : ℕ) (draw : List ℕ) (link : Link ClientStage) (stage : ClientStage)
     → TurnTakes link (turned_at (on_link c reading draw link) stage)
 whole-takes c reading draw link (ToMonitor stage) =
-    let a = arrival_in (on_link c reading draw link) c.own.asker stage in
-    kind-takes (with_asker c.own) ToMonitor link stage (connector.turned_at a stage) (asker-takes a stage)
+    let a = arrival_in (on_link c reading draw link) c.own.mon_client stage in
+    kind-takes (with_mon_client c.own) ToMonitor link stage (connector.turned_at a stage) (mon_client-takes a stage)
 whole-takes c reading draw link (ToDaemon stage) =
     let daemon : Name = (callee_of stage).daemon in
     let a = arrival_in (on_link c reading draw link) (caller_to daemon c.own) stage in

@@ -6,9 +6,9 @@ use Rattle.std.proofs.lemmas.List.Elements.{Contains-append_left, Contains-appen
 use Rattle.std.specs.List.{AllByRecursion}
 use Rattle.cx_rules_session.specs.cx_rules.specs.cx_rotate.specs.declared.views.View.{View}
 use Rattle.cx_rules_session.specs.Asks.{Finished, Asking}
-use Rattle.cx_rules_session.specs.DaemonRule.{ended_entry, is_in, looks, loses, restarted, shut_where, AsAcceptor, AsConnector, Daemon, DaemonNode, DaemonStage, asking_open, daemon_rule, fetches, fetches_on, gone, gone_by_kind, guest_gone, hosts, is_fetching, lossy_gone, me, moved_to, on_dropped, opens, opens_own, submits, ticks, turn, turned_at, undialled, unreached, with_asker}
-use Rattle.cx_rules_session.specs.Guests.{GuestStage, GuestRow}
-use Rattle.cx_rules_session.specs.Hosting.{Hosted, guest_turned, Deciding}
+use Rattle.cx_rules_session.specs.DaemonRule.{ended_entry, is_in, looks, loses, restarted, shut_where, AsAcceptor, AsConnector, Daemon, DaemonNode, DaemonStage, asking_open, daemon_rule, fetches, fetches_on, gone, gone_by_kind, incoming_gone, hosts, is_fetching, lossy_gone, me, moved_to, on_dropped, opens, opens_own, submits, ticks, turn, turned_at, undialled, unreached, with_mon_client}
+use Rattle.cx_rules_session.specs.IncomingLinks.{IncomingStage, IncomingRow}
+use Rattle.cx_rules_session.specs.Hosting.{Hosted, incoming_turned, Deciding}
 use Rattle.cx_rules_session.specs.Kinds.{arrival_in, row_of_kind, turn_of_kind}
 use Rattle.cx_rules_session.specs.cx_desk.specs.Handlers.{Handlers}
 use Rattle.cx_rules_session.specs.cx_journal.specs.declared.entries.Entry.{Entry}
@@ -18,7 +18,7 @@ use Rattle.cx_rules_session.specs.cx_journal.specs.declared.outcomes.Reason.TheV
 use Rattle.cx_rules_session.specs.cx_rules.specs.Acceptor.{AwaitsBanner, Open}
 use Rattle.cx_rules_session.specs.cx_rules.specs.Connector as connector
 use Rattle.cx_rules_session.specs.cx_rules.specs.Greetings.{own_banner}
-use Rattle.cx_rules_session.specs.cx_rules.specs.Holdings.{Asker}
+use Rattle.cx_rules_session.specs.cx_rules.specs.Holdings.{MonClient}
 use Rattle.cx_rules_session.specs.cx_rules.specs.Inputs.{Input, Opened, NoLink, Bytes, Turn, Gone, Look, Tick, Submit, Restart}
 use Rattle.cx_rules_session.specs.cx_rules.specs.Links.{Link, link_of, put_link}
 use Rattle.cx_rules_session.specs.cx_rules.specs.Requests.{Requests, first_open, is_outdated}
@@ -42,20 +42,20 @@ module _ (handlers : Handlers) (d : DaemonNode) (reading : ℕ) (draw : List ℕ
   abbrev pub came : Link DaemonStage → Arrival Daemon DaemonStage
   came link = arrival (me d.own) d.own link reading draw
 
-  -- a turn of a guest's link, and of the daemon's own
-  abbrev pub guest_rule : Link DaemonStage → GuestStage → Deciding Hosted
-  guest_rule link stage = guest_turned handlers (arrival_in (came link) d.own.asker stage) stage
+  -- a turn of an incoming link, and of the daemon's own
+  abbrev pub incoming_rule : Link DaemonStage → IncomingStage → Deciding Hosted
+  incoming_rule link stage = incoming_turned handlers (arrival_in (came link) d.own.mon_client stage) stage
 
   abbrev pub own_turn : Link DaemonStage → connector.Stage → Outcome DaemonNode
   own_turn link stage =
-      turns d (came link) (turn_of_kind (with_asker d.own) AsConnector (connector.turned_at (arrival_in (came link) d.own.asker stage) stage))
+      turns d (came link) (turn_of_kind (with_mon_client d.own) AsConnector (connector.turned_at (arrival_in (came link) d.own.mon_client stage) stage))
 
   -- generations are asked for on an open link to the monitor
   abbrev pub asked_on : Link DaemonStage → Secured → Requests → Outcome DaemonNode
   asked_on link s requests = fetches_on d reading draw (Some (link, (s, requests)))
 
-  abbrev new_guest : ℕ → Arrival Daemon DaemonStage
-  new_guest number = arrival (me d.own) d.own (new_link number (AsAcceptor AwaitsBanner)) reading draw
+  abbrev new_incoming : ℕ → Arrival Daemon DaemonStage
+  new_incoming number = arrival (me d.own) d.own (new_link number (AsAcceptor AwaitsBanner)) reading draw
 
   -- a session ended, and its link with it, or all its links
   abbrev pub ended_with : ℕ → ℕ → Outcome DaemonNode
@@ -69,12 +69,12 @@ module _ (handlers : Handlers) (d : DaemonNode) (reading : ℕ) (draw : List ℕ
     pub record EachOfDaemon : Type 0 where
       pub idle : P (idles d)
       pub comes : (number : ℕ) (link : Link DaemonStage) (bytes : List ℕ) → link_of number d.links ≡ Some link → P (fed d bytes (Some link))
-      pub hosting : (number : ℕ) (link : Link DaemonStage) (stage : GuestStage) → input ≡ Turn number → link_of number d.links ≡ Some link → link.stage ≡ AsAcceptor stage
-          → Always (λ (h : Hosted). P (hosts d (came link) h)) (guest_rule link stage)
+      pub hosting : (number : ℕ) (link : Link DaemonStage) (stage : IncomingStage) → input ≡ Turn number → link_of number d.links ≡ Some link → link.stage ≡ AsAcceptor stage
+          → Always (λ (h : Hosted). P (hosts d (came link) h)) (incoming_rule link stage)
       pub asking : (number : ℕ) (link : Link DaemonStage) (stage : connector.Stage) → input ≡ Turn number → link_of number d.links ≡ Some link → link.stage ≡ AsConnector stage
           → P (own_turn link stage)
-      pub full : (number : ℕ) → P (carried_out d number false (refuses (new_guest number) LinksFull []))
-      pub begins : (number : ℕ) → P (carried_out d number false (goes_on (new_guest number) (AsAcceptor AwaitsBanner) own_banner []))
+      pub full : (number : ℕ) → P (carried_out d number false (refuses (new_incoming number) LinksFull []))
+      pub begins : (number : ℕ) → P (carried_out d number false (goes_on (new_incoming number) (AsAcceptor AwaitsBanner) own_banner []))
       pub begins_own : (number : ℕ) → P (opens_own (undialled d) reading draw number)
       pub reaches_none : (to : Peer) → P (unreached d to)
       pub leaves : (number : ℕ) → P (idles (forgotten d number))
@@ -94,14 +94,14 @@ module _ (handlers : Handlers) (d : DaemonNode) (reading : ℕ) (draw : List ℕ
       turn-keeps number at (Some link) is = by_stage link.stage refl
         where
           by_stage : (stage : DaemonStage) → link.stage ≡ stage → Always P (turned_at handlers d (came link) stage)
-          by_stage (AsAcceptor stage) of = always-map P (hosts d (came link)) (guest_rule link stage) (k.hosting number link stage at is of)
+          by_stage (AsAcceptor stage) of = always-map P (hosts d (came link)) (incoming_rule link stage) (k.hosting number link stage at is of)
           by_stage (AsConnector stage) of = k.asking number link stage at is of
 
       opens-keeps : (number : ℕ) (to : Option Peer) → P (opens d reading draw number to)
       opens-keeps number None = by_test (nat_le 1024 (length d.links))
         where
           by_test : (many : Bool) → P (carried_out d number false
-              (if many then refuses (new_guest number) LinksFull [] else goes_on (new_guest number) (AsAcceptor AwaitsBanner) own_banner []))
+              (if many then refuses (new_incoming number) LinksFull [] else goes_on (new_incoming number) (AsAcceptor AwaitsBanner) own_banner []))
           by_test true = k.full number
           by_test false = k.begins number
       opens-keeps number (Some peer.Monitor) = by_test d.own.dials
@@ -120,21 +120,21 @@ module _ (handlers : Handlers) (d : DaemonNode) (reading : ℕ) (draw : List ℕ
       ended-keeps number session (reply.Ended false) = k.leaves number
       ended-keeps number session _ = k.idle
 
-      guest-gone-keeps : (number : ℕ) (stage : GuestStage) → Always P (guest_gone d number stage)
-      guest-gone-keeps number (Open s served) = by_test served.lossy
+      incoming-gone-keeps : (number : ℕ) (stage : IncomingStage) → Always P (incoming_gone d number stage)
+      incoming-gone-keeps number (Open s served) = by_test served.lossy
         where
           by_test : (lossy : Bool)
               → Always P (if lossy then Asking (End served.number) (lossy_gone d number served.number) else Finished (idles (forgotten d number)))
           by_test true = λ r. ended-keeps number served.number r
           by_test false = k.leaves number
-      guest-gone-keeps number _ = k.leaves number
+      incoming-gone-keeps number _ = k.leaves number
 
       gone-keeps : (found : Option (Link DaemonStage)) → Always P (gone d found)
       gone-keeps None = k.idle
       gone-keeps (Some link) = by_kind link.stage
         where
           by_kind : (stage : DaemonStage) → Always P (gone_by_kind d link.number stage)
-          by_kind (AsAcceptor stage) = guest-gone-keeps link.number stage
+          by_kind (AsAcceptor stage) = incoming-gone-keeps link.number stage
           by_kind (AsConnector stage) = k.loses_own link.number stage
 
       fetches-keeps : P (fetches d reading draw)
@@ -149,7 +149,7 @@ module _ (handlers : Handlers) (d : DaemonNode) (reading : ℕ) (draw : List ℕ
           by_test false = by_open (first_open asking_open d.links) refl
 
       ticks-keeps : P (ticks d reading draw)
-      ticks-keeps = by_test (is_outdated reading d.own.asker.view)
+      ticks-keeps = by_test (is_outdated reading d.own.mon_client.view)
         where
           by_test : (outdated : Bool) → P (if outdated then fetches d reading draw else idles d)
           by_test true = fetches-keeps
@@ -221,8 +221,8 @@ pub record IsRest (d : DaemonNode) (o : Outcome DaemonNode) : Type 0 where
   pub seals : o.out.seals ≡ []
   pub save : o.out.save ≡ None
   pub entries : AllByRecursion RestEntry o.out.entries
-  pub name : o.state.own.asker.name ≡ d.own.asker.name
-  pub secret : o.state.own.asker.secret ≡ d.own.asker.secret
+  pub name : o.state.own.mon_client.name ≡ d.own.mon_client.name
+  pub secret : o.state.own.mon_client.secret ≡ d.own.mon_client.secret
   pub links : AreRested d.links o.state.links
 
 module _ (links : List (Link DaemonStage)) where
@@ -312,26 +312,26 @@ rested-all P new links (l ∷ ls) are h = (by_kind are.0, rested-all P new links
 module _ (handlers : Handlers) (d : DaemonNode) (reading : ℕ) (draw : List ℕ) (input : Input) (P : Outcome DaemonNode → Type 0) where
   -- what rests keep, and turns and fetches, each outcome keeps; a rest has all of one that asks as it was, but where it is shown a view or begins anew
   pub record RestsAndTurns : Type 0 where
-    pub rests : (o : Outcome DaemonNode) → IsRest d o → o.state.own.asker ≡ d.own.asker → P o
+    pub rests : (o : Outcome DaemonNode) → IsRest d o → o.state.own.mon_client ≡ d.own.mon_client → P o
     pub shown : (view : View) → input ≡ Look view → IsRest d (looks d view) → P (looks d view)
     pub restarts : IsRest d (restarted d) → P (restarted d)
-    pub hosting : (number : ℕ) (link : Link DaemonStage) (stage : GuestStage) → input ≡ Turn number → link_of number d.links ≡ Some link → link.stage ≡ AsAcceptor stage
-        → Always (λ (h : Hosted). P (hosts d (came handlers d reading draw link) h)) (guest_rule handlers d reading draw link stage)
+    pub hosting : (number : ℕ) (link : Link DaemonStage) (stage : IncomingStage) → input ≡ Turn number → link_of number d.links ≡ Some link → link.stage ≡ AsAcceptor stage
+        → Always (λ (h : Hosted). P (hosts d (came handlers d reading draw link) h)) (incoming_rule handlers d reading draw link stage)
     pub asking : (number : ℕ) (link : Link DaemonStage) (stage : connector.Stage) → input ≡ Turn number → link_of number d.links ≡ Some link → link.stage ≡ AsConnector stage
         → P (own_turn handlers d reading draw link stage)
     pub fetches_there : (link : Link DaemonStage) (s : Secured) (requests : Requests) → first_open asking_open d.links ≡ Some (link, (s, requests))
         → P (asked_on handlers d reading draw link s requests)
 
   module _ (k : RestsAndTurns) where
-    rest : (o : Outcome DaemonNode) → o.out.seals ≡ [] → o.out.save ≡ None → AllByRecursion RestEntry o.out.entries → o.state.own.asker ≡ d.own.asker
+    rest : (o : Outcome DaemonNode) → o.out.seals ≡ [] → o.out.save ≡ None → AllByRecursion RestEntry o.out.entries → o.state.own.mon_client ≡ d.own.mon_client
         → AreRested d.links o.state.links → P o
     rest o seals save entries own links =
         k.rests o (record {
           seals = seals;
           save = save;
           entries = entries;
-          name = ap (λ (x : Asker). x.name) own;
-          secret = ap (λ (x : Asker). x.secret) own;
+          name = ap (λ (x : MonClient). x.name) own;
+          secret = ap (λ (x : MonClient). x.secret) own;
           links = links;
         }) own
 
@@ -341,9 +341,9 @@ module _ (handlers : Handlers) (d : DaemonNode) (reading : ℕ) (draw : List ℕ
       comes = λ number link bytes is. rest (fed d bytes (Some link)) refl refl tt refl (fed-rested d.links number link bytes is);
       hosting = k.hosting;
       asking = k.asking;
-      full = λ number. rest (carried_out d number false (refuses (new_guest handlers d reading draw number) LinksFull [])) refl refl (tt, tt) refl
+      full = λ number. rest (carried_out d number false (refuses (new_incoming handlers d reading draw number) LinksFull [])) refl refl (tt, tt) refl
           (left-rested d.links (λ l. not (l.number == number)));
-      begins = λ number. rest (carried_out d number false (goes_on (new_guest handlers d reading draw number) (AsAcceptor AwaitsBanner) own_banner [])) refl refl tt refl
+      begins = λ number. rest (carried_out d number false (goes_on (new_incoming handlers d reading draw number) (AsAcceptor AwaitsBanner) own_banner [])) refl refl tt refl
           (put-rested d.links _ (inl (tt, refl)));
       begins_own = λ number. rest (opens_own (undialled d) reading draw number) refl refl tt refl (put-rested d.links _ (inl (tt, refl)));
       reaches_none = λ to. by_peer to;
@@ -375,27 +375,27 @@ module _ (handlers : Handlers) (d : DaemonNode) (reading : ℕ) (draw : List ℕ
 
 -- a property of a step that an outcome has by its row, where links that are shut beside don't count
 pub record ByRows (handlers : Handlers) (d : DaemonNode) (reading : ℕ) (draw : List ℕ) (P : Outcome DaemonNode → Type 0)
-    (G : Link DaemonStage → GuestStage → GuestRow → Type 0) : Type 0 where
+    (G : Link DaemonStage → IncomingStage → IncomingRow → Type 0) : Type 0 where
   pub idle : P (idles d)
   pub moves : (number session : ℕ) (o : Outcome DaemonNode) → P o → P (moved_to number (Some session) o)
   pub broken : (link : Link DaemonStage) (why : BytesFault) (opened : List SealEntry)
       → P (carried_out d link.number false (refuses_bytes (came handlers d reading draw link) why opened))
-  pub rows : (link : Link DaemonStage) (stage : GuestStage) (row : GuestRow) → G link stage row
-      → P (carried_out d link.number true (row_of_kind (with_asker d.own) AsAcceptor row))
+  pub rows : (link : Link DaemonStage) (stage : IncomingStage) (row : IncomingRow) → G link stage row
+      → P (carried_out d link.number true (row_of_kind (with_mon_client d.own) AsAcceptor row))
 
 module _ (handlers : Handlers) (d : DaemonNode) (reading : ℕ) (draw : List ℕ) (P : Outcome DaemonNode → Type 0)
-    (G : Link DaemonStage → GuestStage → GuestRow → Type 0) (k : ByRows handlers d reading draw P G) where
-  pub hosted-by-rows : (link : Link DaemonStage) (stage : GuestStage) (hosted : Hosted) → EachRow (G link stage) hosted.turned
+    (G : Link DaemonStage → IncomingStage → IncomingRow → Type 0) (k : ByRows handlers d reading draw P G) where
+  pub hosted-by-rows : (link : Link DaemonStage) (stage : IncomingStage) (hosted : Hosted) → EachRow (G link stage) hosted.turned
       → P (hosts d (came handlers d reading draw link) hosted)
   hosted-by-rows link stage hosted h = moved hosted.moved (by_turned hosted.turned h)
     where
-      moved : (to : Option ℕ) → P (turns d (came handlers d reading draw link) (turn_of_kind (with_asker d.own) AsAcceptor hosted.turned))
-          → P (moved_to link.number to (turns d (came handlers d reading draw link) (turn_of_kind (with_asker d.own) AsAcceptor hosted.turned)))
+      moved : (to : Option ℕ) → P (turns d (came handlers d reading draw link) (turn_of_kind (with_mon_client d.own) AsAcceptor hosted.turned))
+          → P (moved_to link.number to (turns d (came handlers d reading draw link) (turn_of_kind (with_mon_client d.own) AsAcceptor hosted.turned)))
       moved None p = p
       moved (Some session) p = k.moves link.number session _ p
 
-      by_turned : (turned : Turned Asker GuestStage) → EachRow (G link stage) turned
-          → P (turns d (came handlers d reading draw link) (turn_of_kind (with_asker d.own) AsAcceptor turned))
+      by_turned : (turned : Turned MonClient IncomingStage) → EachRow (G link stage) turned
+          → P (turns d (came handlers d reading draw link) (turn_of_kind (with_mon_client d.own) AsAcceptor turned))
       by_turned Waits g = k.idle
       by_turned (Refuses why opened) g = k.broken link why opened
       by_turned (Handles row) g = k.rows link stage row g

@@ -9,8 +9,8 @@ pub mod CallWalk
 pub mod CallKeeps
 pub mod ClientKept
 pub mod Always
-pub mod GuestWalk
-pub mod GuestTakes
+pub mod IncomingWalk
+pub mod IncomingTakes
 pub mod DaemonOutcomes
 pub mod DaemonNamed
 pub mod EntityNamed

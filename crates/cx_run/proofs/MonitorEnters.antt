@@ -1,7 +1,7 @@
 -- What a step of the monitor enters in a run, also where its save fails.
 use Rattle.std.proofs.Common.{ℕ, List, Option, Some, None}
 use Rattle.std.specs.List.{AllByRecursion}
-use Rattle.cx_lines.specs.cx_line_words.specs.declared.choices.LeftState.{LeftState}
+use Rattle.cx_lines.specs.cx_words.specs.declared.choices.LeftState.{LeftState}
 use Rattle.cx_rules_session.specs.cx_rotate.specs.declared.states.KeptState.{KeptState}
 use Rattle.cx_rules_session.specs.cx_rules.specs.Inputs.{Input}
 use Rattle.cx_rules_session.specs.cx_rules.specs.Monitor.{MonitorNode}

@@ -6,7 +6,7 @@ use Rattle.cx_base.specs.Names.{Name}
 use Rattle.cx_base.specs.declared.operations.Operation.{Operation}
 use Rattle.cx_rules_session.specs.cx_journal.specs.declared.outcomes.Reason.{Reason}
 use Rattle.cx_rules_session.specs.cx_journal.specs.declared.outcomes.Reason.TheVariants as reason
-pub use Rattle.cx_rules_session.specs.cx_rules.proofs.AskerWalk.{IsNoTicket}
+pub use Rattle.cx_rules_session.specs.cx_rules.proofs.MonClientWalk.{IsNoTicket}
 use Rattle.cx_rules_session.specs.cx_login.specs.Held.{Held}
 use Rattle.cx_rules_session.specs.cx_rules.specs.Connector as connector
 use Rattle.cx_rules_session.specs.cx_rules.specs.Inputs.{Input, Opened, NoLink, Bytes, Turn, Gone, Look, Tick, Submit, Restart}
@@ -14,7 +14,7 @@ use Rattle.cx_rules_session.specs.cx_rules.specs.Links.{Link, link_of}
 use Rattle.cx_rules_session.specs.cx_rules.specs.Requests.{Requests, asks_tickets, first_open}
 use Rattle.cx_rules_session.specs.cx_rules.specs.Rows.{Arrival, Outcome, arrival, carried_out, fed, idles, lifted, turns}
 use Rattle.cx_rules_session.specs.cx_rules.specs.Secured.{Secured}
-use Rattle.cx_rules_session.specs.ClientRule.{ClientStage, ToMonitor, ToDaemon, Dial, WholeClient, WholeClientNode, asking_open, caller_to, calls, calls_with, connects, dial_of, first_call, having_session, is_to, logs_in, loses, me, open_to_ask, opens, opens_dialled, pushes, queue_reason, refuses_command, renews, renews_on, restarted, sends, sends_in, sends_on, sent_entry, submits, turn, turned_at, unreached, whole_client_rule, with_asker, with_caller}
+use Rattle.cx_rules_session.specs.ClientRule.{ClientStage, ToMonitor, ToDaemon, Dial, WholeClient, WholeClientNode, asking_open, caller_to, calls, calls_with, connects, dial_of, first_call, having_session, is_to, logs_in, loses, me, open_to_ask, opens, opens_dialled, pushes, queue_reason, refuses_command, renews, renews_on, restarted, sends, sends_in, sends_on, sent_entry, submits, turn, turned_at, unreached, whole_client_rule, with_mon_client, with_caller}
 use Rattle.cx_rules_session.specs.Kinds.{arrival_in, turn_of_kind}
 use Rattle.cx_rules_session.specs.Presenter as call
 use Rattle.cx_rules_session.specs.Presenter.{CallStage, callee_of}
@@ -32,9 +32,9 @@ module _ (c : WholeClientNode) (reading : ℕ) (draw : List ℕ) where
   on_link link = arrival (me c.own) c.own link reading draw
 
   -- a turn of a link to the monitor, and of one to a daemon
-  abbrev pub asker_turn : Link ClientStage → connector.Stage → Outcome WholeClientNode
-  asker_turn link stage =
-      turns c (on_link link) (turn_of_kind (with_asker c.own) ToMonitor (connector.turned_at (arrival_in (on_link link) c.own.asker stage) stage))
+  abbrev pub mon_client_turn : Link ClientStage → connector.Stage → Outcome WholeClientNode
+  mon_client_turn link stage =
+      turns c (on_link link) (turn_of_kind (with_mon_client c.own) ToMonitor (connector.turned_at (arrival_in (on_link link) c.own.mon_client stage) stage))
 
   abbrev pub call_turn : Link ClientStage → CallStage → Outcome WholeClientNode
   call_turn link stage =
@@ -45,7 +45,7 @@ module _ (c : WholeClientNode) (reading : ℕ) (draw : List ℕ) where
   abbrev pub renewed : ℕ → Link ClientStage → Secured → Requests → Outcome WholeClientNode
   renewed services link s requests =
       carried_out c link.number false
-      (lifted (with_asker c.own) (asks_tickets open_to_ask (arrival (me c.own) c.own.asker link reading draw) s requests services))
+      (lifted (with_mon_client c.own) (asks_tickets open_to_ask (arrival (me c.own) c.own.mon_client link reading draw) s requests services))
 
   -- a session is the one with a daemon, and an operation is sent in it
   abbrev pub sent_in : HeldSession → Operation → ℕ → Option (Link ClientStage × (Secured × (Callee × ℕ))) → Outcome WholeClientNode
@@ -57,7 +57,7 @@ module _ (c : WholeClientNode) (reading : ℕ) (draw : List ℕ) where
     pub record EachOutcome : Type 0 where
       pub idle : P (idles c)
       pub comes : (number : ℕ) (link : Link ClientStage) (bytes : List ℕ) → link_of number c.links ≡ Some link → P (fed c bytes (Some link))
-      pub asks : (number : ℕ) (link : Link ClientStage) (stage : connector.Stage) → link_of number c.links ≡ Some link → link.stage ≡ ToMonitor stage → P (asker_turn link stage)
+      pub asks : (number : ℕ) (link : Link ClientStage) (stage : connector.Stage) → link_of number c.links ≡ Some link → link.stage ≡ ToMonitor stage → P (mon_client_turn link stage)
       pub presents : (number : ℕ) (link : Link ClientStage) (stage : CallStage) → link_of number c.links ≡ Some link → link.stage ≡ ToDaemon stage → P (call_turn link stage)
       pub refuses : (why : Reason) → IsNoTicket why → P (refuses_command c why)
       pub begins : (number : ℕ) (peer : Peer) (dial : Dial) → find (dial_of peer) c.own.dials ≡ Some dial → P (opens_dialled c reading draw number peer (Some dial))
@@ -66,8 +66,8 @@ module _ (c : WholeClientNode) (reading : ℕ) (draw : List ℕ) where
       pub logs : (services : ℕ) → P (logs_in c services)
       pub renews_there : (services : ℕ) (link : Link ClientStage) (s : Secured) (requests : Requests) → first_open asking_open c.links ≡ Some (link, (s, requests))
           → P (renewed services link s requests)
-      pub dials : (daemon : Name) (lossy : Bool) (held : Held) → input ≡ Submit (command.Connect daemon lossy) → ticket_for daemon.kind c.own.asker.holdings ≡ Some held
-          → P (calls c (record { callee = record { daemon = daemon; lossy = lossy }; held = held; gid = held_gid c.own.asker.holdings }))
+      pub dials : (daemon : Name) (lossy : Bool) (held : Held) → input ≡ Submit (command.Connect daemon lossy) → ticket_for daemon.kind c.own.mon_client.holdings ≡ Some held
+          → P (calls c (record { callee = record { daemon = daemon; lossy = lossy }; held = held; gid = held_gid c.own.mon_client.holdings }))
       pub sends_later : (daemon : Name) (session : HeldSession) (operation : Operation) (seq : ℕ) → session_with daemon c.own.sessions ≡ Some session
           → P (sent_in session operation seq None)
       pub sends_there : (daemon : Name) (session : HeldSession) (operation : Operation) (seq : ℕ) (link : Link ClientStage) (s : Secured) (callee : Callee) (cookie : ℕ)
@@ -110,20 +110,20 @@ module _ (c : WholeClientNode) (reading : ℕ) (draw : List ℕ) where
     connects-keeps : (daemon : Name) (lossy : Bool) → EachOutcome (Submit (command.Connect daemon lossy)) P → P (connects c daemon lossy)
     connects-keeps daemon lossy k = by_busy (list_any (λ link. is_to daemon link.stage) c.links)
       where
-        by_count : (held : Held) → ticket_for daemon.kind c.own.asker.holdings ≡ Some held → (spent : Bool)
+        by_count : (held : Held) → ticket_for daemon.kind c.own.mon_client.holdings ≡ Some held → (spent : Bool)
             → P (if spent then refuses_command c reason.Spent
-            else calls c (record { callee = record { daemon = daemon; lossy = lossy }; held = held; gid = held_gid c.own.asker.holdings }))
+            else calls c (record { callee = record { daemon = daemon; lossy = lossy }; held = held; gid = held_gid c.own.mon_client.holdings }))
         by_count held is true = k.refuses reason.Spent tt
         by_count held is false = k.dials daemon lossy held refl is
 
-        by_ticket : (found : Option Held) → ticket_for daemon.kind c.own.asker.holdings ≡ found → P (calls_with c (record { daemon = daemon; lossy = lossy }) found)
+        by_ticket : (found : Option Held) → ticket_for daemon.kind c.own.mon_client.holdings ≡ found → P (calls_with c (record { daemon = daemon; lossy = lossy }) found)
         by_ticket None is = k.refuses (reason.NoTicket daemon.kind) tt
-        by_ticket (Some held) is = by_count held is (c.own.asker.global_seq == 2 ^ 64 - 1)
+        by_ticket (Some held) is = by_count held is (c.own.mon_client.global_seq == 2 ^ 64 - 1)
 
         by_busy : (busy : Bool) → P (if busy then refuses_command c reason.Busy
-            else calls_with c (record { daemon = daemon; lossy = lossy }) (ticket_for daemon.kind c.own.asker.holdings))
+            else calls_with c (record { daemon = daemon; lossy = lossy }) (ticket_for daemon.kind c.own.mon_client.holdings))
         by_busy true = k.refuses reason.Busy tt
-        by_busy false = by_ticket (ticket_for daemon.kind c.own.asker.holdings) refl
+        by_busy false = by_ticket (ticket_for daemon.kind c.own.mon_client.holdings) refl
 
     full-keeps : (input : Input) → EachOutcome input P → (why : QueueFault) → P (refuses_command c (queue_reason why))
     full-keeps input k (queue.QueueFull limit) = k.refuses reason.QueueFull tt

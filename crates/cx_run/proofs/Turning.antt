@@ -6,9 +6,9 @@ use Rattle.cx_base.proofs.Names.{same_name_is}
 use Rattle.cx_base.specs.Names.{Name}
 use Rattle.cx_base.specs.declared.nodes.NodeName.{NodeName}
 use Rattle.cx_base.specs.declared.nodes.NodeName.TheVariants as node
-use Rattle.cx_lines.specs.cx_line_words.specs.declared.choices.LeftState.{LeftState}
-use Rattle.cx_lines.specs.cx_line_words.specs.declared.choices.LeftState.TheVariants as left
-use Rattle.cx_lines.specs.cx_line_words.specs.declared.choices.Side.{Side}
+use Rattle.cx_lines.specs.cx_words.specs.declared.choices.LeftState.{LeftState}
+use Rattle.cx_lines.specs.cx_words.specs.declared.choices.LeftState.TheVariants as left
+use Rattle.cx_lines.specs.cx_words.specs.declared.choices.Side.{Side}
 use Rattle.cx_rules_session.specs.cx_rotate.specs.declared.states.KeptState.{KeptState}
 use Rattle.cx_rules_session.specs.cx_desk.specs.Handlers.{Handlers}
 use Rattle.cx_rules_session.specs.cx_rules.specs.Connector as connector
@@ -24,10 +24,10 @@ use Rattle.cx_rules_session.specs.ClientRule as client
 use Rattle.cx_rules_session.specs.ClientRule.{ClientStage, WholeClient, WholeClientNode}
 use Rattle.cx_rules_session.specs.DaemonRule as daemon
 use Rattle.cx_rules_session.specs.DaemonRule.{AsAcceptor, AsConnector, Daemon, DaemonNode, DaemonStage, book_after, book_reply, hosts, is_in, is_older, moved_to}
-use Rattle.cx_rules_session.specs.Guests.{GuestStage}
-use Rattle.cx_rules_session.specs.Hosting.{Deciding, Hosted, guest_turned}
+use Rattle.cx_rules_session.specs.IncomingLinks.{IncomingStage}
+use Rattle.cx_rules_session.specs.Hosting.{Deciding, Hosted, incoming_turned}
 use Rattle.cx_rules_session.specs.Kinds.{arrival_in, turn_of_kind}
-use Rattle.cx_rules_session.specs.cx_rules.specs.Holdings.{Asker}
+use Rattle.cx_rules_session.specs.cx_rules.specs.Holdings.{MonClient}
 use Rattle.cx_rules_session.specs.cx_steps.specs.declared.events.Peer.{Peer}
 use Rattle.cx_run.specs.Deliveries.{Given, came_at, came_on, came_to, far_side, followed, given, gives, open_all, restarts, tells, tells_gone, turns, vanish}
 use Rattle.cx_run.specs.Happenings.{EntityNode, OfClient, OfDaemon, Happening, Nodes, Stepped, entity_of, entity_rule, entity_steps, is_of, monitor_steps, steps, steps_of}
@@ -35,9 +35,9 @@ use Rattle.cx_run.specs.Turning.{untaken_at, untaken_on, untaken_to}
 use Rattle.cx_run.specs.Wires.{Wire, end_of, ended, has_end, node_at, same_node, with_wire}
 use Rattle.cx_run.specs.Worlds.{Post, World, carried, happening, opened_wires, post_of}
 use Rattle.cx_run.proofs.ClientKept.{whole-takes}
-use Rattle.cx_run.proofs.ClientTakes.{asker-takes}
+use Rattle.cx_run.proofs.ClientTakes.{mon_client-takes}
 use Rattle.cx_run.proofs.Always.{Always, always-book, always-map, always-weaker}
-use Rattle.cx_run.proofs.GuestTakes.{TakesHosted, guest-takes}
+use Rattle.cx_run.proofs.IncomingTakes.{TakesHosted, incoming-takes}
 use Rattle.cx_run.proofs.MonitorTakes.{monitor-takes}
 use Rattle.cx_run.proofs.Taking.{Takes, TurnTakes, kind-takes}
 
@@ -187,23 +187,23 @@ module _ (handlers : Handlers) (d : DaemonNode) (n reading : ℕ) (draw : List �
   kind-less : (t : Turned Daemon DaemonStage) → TurnTakes link t → Less (rows.turns d here t)
   kind-less t h = record { opens = turns-open d here t; less = turns-less d n here t (found-number n d.links link found) h }
 
-  hosted-less : (stage : GuestStage) (hosted : Hosted) → TakesHosted (arrival_in here d.own.asker stage) hosted → Less (hosts d here hosted)
+  hosted-less : (stage : IncomingStage) (hosted : Hosted) → TakesHosted (arrival_in here d.own.mon_client stage) hosted → Less (hosts d here hosted)
   hosted-less stage hosted h =
-      let t : Turned Daemon DaemonStage = turn_of_kind (daemon.with_asker d.own) AsAcceptor hosted.turned in
+      let t : Turned Daemon DaemonStage = turn_of_kind (daemon.with_mon_client d.own) AsAcceptor hosted.turned in
       let moved : Less (moved_to n hosted.moved (rows.turns d here t)) =
-      moved-less n (Some link) hosted.moved (rows.turns d here t) (kind-less t (kind-takes (daemon.with_asker d.own) AsAcceptor link stage hosted.turned h.takes)) in
+      moved-less n (Some link) hosted.moved (rows.turns d here t) (kind-less t (kind-takes (daemon.with_mon_client d.own) AsAcceptor link stage hosted.turned h.takes)) in
       subst (λ (k : ℕ). Less (moved_to k hosted.moved (rows.turns d here t))) (sym (found-number n d.links link found)) moved
 
   stage-less : (stage : DaemonStage) → Always Less (daemon.turned_at handlers d here stage)
   stage-less (AsAcceptor stage) =
-      let rule : Deciding Hosted = guest_turned handlers (arrival_in here d.own.asker stage) stage in
+      let rule : Deciding Hosted = incoming_turned handlers (arrival_in here d.own.mon_client stage) stage in
       always-map Less (hosts d here) rule
-      (always-weaker (TakesHosted (arrival_in here d.own.asker stage)) (λ (h : Hosted). Less (hosts d here h)) (hosted-less stage) rule
-      (guest-takes handlers (arrival_in here d.own.asker stage) stage))
+      (always-weaker (TakesHosted (arrival_in here d.own.mon_client stage)) (λ (h : Hosted). Less (hosts d here h)) (hosted-less stage) rule
+      (incoming-takes handlers (arrival_in here d.own.mon_client stage) stage))
   stage-less (AsConnector stage) =
-      let a : Arrival Asker connector.Stage = arrival_in here d.own.asker stage in
-      kind-less (turn_of_kind (daemon.with_asker d.own) AsConnector (connector.turned_at a stage))
-      (kind-takes (daemon.with_asker d.own) AsConnector link stage (connector.turned_at a stage) (asker-takes a stage))
+      let a : Arrival MonClient connector.Stage = arrival_in here d.own.mon_client stage in
+      kind-less (turn_of_kind (daemon.with_mon_client d.own) AsConnector (connector.turned_at a stage))
+      (kind-takes (daemon.with_mon_client d.own) AsConnector link stage (connector.turned_at a stage) (mon_client-takes a stage))
 
 daemon-less : (handlers : Handlers) (d : DaemonNode) (n reading : ℕ) (draw : List ℕ) (found : Option (Link DaemonStage)) → link_of n d.links ≡ found
     → Always (TurnsLess n found) (daemon.turn handlers d reading draw found)

@@ -14,7 +14,7 @@ use Rattle.cx_rules_session.proofs.WholeClientForgets.{client-forgets-links}
 use Rattle.cx_rules_session.specs.ClientRule.{ClientStage, ToMonitor, ToDaemon, WholeClientNode}
 use Rattle.cx_rules_session.specs.DaemonRule.{DaemonNode, DaemonStage, DaemonState, AsAcceptor, AsConnector}
 use Rattle.cx_rules_session.specs.Forgets.{DaemonStandsFor, WholeClientStandsFor, abridged_client_link, abridged_daemon_link}
-use Rattle.cx_rules_session.specs.Guests.{GuestStage}
+use Rattle.cx_rules_session.specs.IncomingLinks.{IncomingStage}
 use Rattle.cx_rules_session.specs.Presenter as call
 use Rattle.cx_run.specs.Turning.{untaken_on}
 
@@ -70,14 +70,14 @@ client-untaken c s n stands =
 
 -- ---- a daemon
 
-guest-ahead : (l : Link DaemonStage) (stage : GuestStage) → (let k : Link DaemonStage = record l { stage = AsAcceptor stage } in ahead_of (abridged_daemon_link k)) ≡ ahead_of l
-guest-ahead l AwaitsBanner = refl
-guest-ahead l AwaitsHello = refl
-guest-ahead l AwaitsRequest = refl
-guest-ahead l (AwaitsProof awaited) = refl
-guest-ahead l (AwaitsSignature s owner) = refl
-guest-ahead l (AwaitsIdent s owner) = refl
-guest-ahead l (Open s served) = refl
+incoming-ahead : (l : Link DaemonStage) (stage : IncomingStage) → (let k : Link DaemonStage = record l { stage = AsAcceptor stage } in ahead_of (abridged_daemon_link k)) ≡ ahead_of l
+incoming-ahead l AwaitsBanner = refl
+incoming-ahead l AwaitsHello = refl
+incoming-ahead l AwaitsRequest = refl
+incoming-ahead l (AwaitsProof awaited) = refl
+incoming-ahead l (AwaitsSignature s owner) = refl
+incoming-ahead l (AwaitsIdent s owner) = refl
+incoming-ahead l (Open s served) = refl
 
 own-ahead : (l : Link DaemonStage) (stage : connector.Stage) → (let k : Link DaemonStage = record l { stage = AsConnector stage } in ahead_of (abridged_daemon_link k)) ≡ ahead_of l
 own-ahead l (connector.AwaitsBanner asked) = refl
@@ -89,7 +89,7 @@ own-ahead l (connector.AwaitsIdent s session) = refl
 own-ahead l (connector.Open s requests) = refl
 
 daemon-ahead : (l : Link DaemonStage) (stage : DaemonStage) → (let k : Link DaemonStage = record l { stage = stage } in ahead_of (abridged_daemon_link k)) ≡ ahead_of l
-daemon-ahead l (AsAcceptor stage) = guest-ahead l stage
+daemon-ahead l (AsAcceptor stage) = incoming-ahead l stage
 daemon-ahead l (AsConnector stage) = own-ahead l stage
 
 daemon-found : (found : Option (Link DaemonStage)) → untaken_on (option_map abridged_daemon_link found) ≡ untaken_on found

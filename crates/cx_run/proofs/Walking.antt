@@ -14,8 +14,8 @@ use Rattle.cx_lines.specs.declared.link_steps.LinkStep.{LinkStep}
 use Rattle.cx_lines.specs.declared.link_steps.LinkStep.TheVariants as link
 use Rattle.cx_lines.specs.declared.node_steps.NodeStep.{NodeStep}
 use Rattle.cx_lines.specs.declared.node_steps.NodeStep.TheVariants as step
-use Rattle.cx_lines.specs.cx_line_words.specs.declared.choices.Side.{Side}
-use Rattle.cx_lines.specs.cx_line_words.specs.declared.choices.Side.TheVariants.{Connector, Acceptor}
+use Rattle.cx_lines.specs.cx_words.specs.declared.choices.Side.{Side}
+use Rattle.cx_lines.specs.cx_words.specs.declared.choices.Side.TheVariants.{Connector, Acceptor}
 use Rattle.cx_rules_session.specs.cx_rules.specs.Inputs.{Input, Opened, NoLink, Bytes, Turn, Gone, Look, Restart, Tick, Submit}
 use Rattle.cx_rules_session.specs.cx_steps.specs.declared.events.Command.TheVariants as told
 use Rattle.cx_rules_session.specs.cx_steps.specs.declared.events.Peer.{Peer}

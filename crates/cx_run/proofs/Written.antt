@@ -7,8 +7,8 @@ use Rattle.cx_base.specs.Texts.{is_part}
 use Rattle.cx_base.specs.declared.operations.Operation.{Operation}
 use Rattle.cx_rules_session.specs.cx_desk.specs.Handlers.{Handlers}
 use Rattle.cx_rules_session.specs.cx_enc.specs.FieldLaws.{both_true}
-use Rattle.cx_lines.specs.cx_line_words.specs.Values.{SpellsItems, is_fit}
-use Rattle.cx_lines.specs.cx_line_words.specs.declared.known.Known.{Known}
+use Rattle.cx_lines.specs.cx_words.specs.lines.Values.{SpellsItems, is_fit}
+use Rattle.cx_lines.specs.cx_words.specs.declared.known.Known.{Known}
 use Rattle.cx_lines.specs.Commands.{command_items}
 use Rattle.cx_lines.specs.Lines.{Spells, items}
 use Rattle.cx_lines.specs.declared.commands.LineCommand.{LineCommand}

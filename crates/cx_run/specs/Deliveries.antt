@@ -2,8 +2,8 @@
 use Rattle.std.specs.Prelude.{ℕ, ◌==◌, Bool, false, List, [], ◌∷◌, ◌++◌, drop, filter, length, replicate, take, Option, Some, None, if◌then◌else◌}
 use Rattle.cx_base.specs.declared.nodes.NodeName.{NodeName}
 use Rattle.cx_base.specs.declared.nodes.NodeName.TheVariants as node
-use Rattle.cx_lines.specs.cx_line_words.specs.declared.choices.Side.{Side}
-use Rattle.cx_lines.specs.cx_line_words.specs.declared.choices.Side.TheVariants.{Connector, Acceptor}
+use Rattle.cx_lines.specs.cx_words.specs.declared.choices.Side.{Side}
+use Rattle.cx_lines.specs.cx_words.specs.declared.choices.Side.TheVariants.{Connector, Acceptor}
 use Rattle.cx_rules_session.specs.cx_rules.specs.Inputs.{Input, Opened, Bytes, Turn, Gone, Restart}
 use Rattle.cx_rules_session.specs.cx_rules.specs.Links.{Link, link_of}
 use Rattle.cx_rules_session.specs.cx_steps.specs.Nothing.{nothing}

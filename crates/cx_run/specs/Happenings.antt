@@ -4,11 +4,11 @@ use Rattle.cx_base.specs.Names.{Name, same_name}
 use Rattle.cx_rules_session.specs.cx_journal.specs.declared.entries.Entry.{Entry}
 use Rattle.cx_base.specs.declared.nodes.NodeName.{NodeName}
 use Rattle.cx_base.specs.declared.nodes.NodeName.TheVariants as node
-use Rattle.cx_lines.specs.cx_line_words.specs.declared.choices.LeftState.{LeftState}
-use Rattle.cx_lines.specs.cx_line_words.specs.declared.choices.LeftState.TheVariants as left
+use Rattle.cx_lines.specs.cx_words.specs.declared.choices.LeftState.{LeftState}
+use Rattle.cx_lines.specs.cx_words.specs.declared.choices.LeftState.TheVariants as left
 use Rattle.cx_rules_session.specs.cx_rotate.specs.declared.states.KeptState.{KeptState}
 use Rattle.cx_rules_session.specs.cx_desk.specs.Handlers.{Handlers}
-use Rattle.cx_rules_session.specs.cx_rules.specs.Holdings.{Asker}
+use Rattle.cx_rules_session.specs.cx_rules.specs.Holdings.{MonClient}
 use Rattle.cx_rules_session.specs.cx_rules.specs.Inputs.{Input}
 use Rattle.cx_rules_session.specs.cx_rules.specs.Monitor.{MonitorNode}
 use Rattle.cx_rules_session.specs.cx_rules.specs.MonitorRule.{monitor_rule, unsaved}
@@ -51,12 +51,12 @@ pub record Stepped : Type 0 where
 -- ---- an entity
 
 -- itself as one that asks the monitor
-abbrev pub asker_in : EntityNode → Asker
-asker_in (OfClient client) = client.own.asker
-asker_in (OfDaemon daemon) = daemon.node.own.asker
+abbrev pub mon_client_in : EntityNode → MonClient
+mon_client_in (OfClient client) = client.own.mon_client
+mon_client_in (OfDaemon daemon) = daemon.node.own.mon_client
 
 abbrev pub is_of : Name → EntityNode → Bool
-is_of name entity = same_name (asker_in entity).name name
+is_of name entity = same_name (mon_client_in entity).name name
 
 abbrev pub entity_of : Name → Nodes → Option EntityNode
 entity_of name nodes = find (is_of name) nodes.entities

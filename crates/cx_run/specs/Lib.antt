@@ -2,7 +2,7 @@
 pub use Rattle.cx_rules_session.specs.cx_authorize as cx_authorize
 pub use Rattle.cx_rules_session.specs.cx_desk as cx_desk
 pub use Rattle.cx_rules_session.specs.cx_keyserver as cx_keyserver
-pub use Rattle.cx_lines.specs.cx_line_words as cx_line_words
+pub use Rattle.cx_lines.specs.cx_words as cx_words
 pub use Rattle.cx_lines as cx_lines
 pub use Rattle.cx_rules_session.specs.cx_login as cx_login
 pub use Rattle.cx_rules_session.specs.cx_rules as cx_rules

@@ -13,12 +13,12 @@ use Rattle.cx_lines.specs.declared.lines.Line.TheVariants as line
 use Rattle.cx_lines.specs.declared.lines.Numbered.{Numbered}
 use Rattle.cx_lines.specs.declared.settings.Setting.{Setting}
 use Rattle.cx_lines.specs.declared.settings.Setting.TheVariants as setting
-use Rattle.cx_lines.specs.cx_line_words.specs.declared.choices.Modes.{Modes}
-use Rattle.cx_lines.specs.cx_line_words.specs.declared.choices.Modes.TheVariants.{Crc, Secure, Both}
+use Rattle.cx_lines.specs.cx_words.specs.declared.choices.Modes.{Modes}
+use Rattle.cx_lines.specs.cx_words.specs.declared.choices.Modes.TheVariants.{Crc, Secure, Both}
 use Rattle.cx_base.specs.declared.nodes.NodeName.{NodeName}
 use Rattle.cx_rules_session.specs.cx_rotate.specs.declared.states.KeptState.{KeptState}
 use Rattle.cx_rules_session.specs.ClientRule.{opening_whole_client}
-use Rattle.cx_rules_session.specs.cx_rules.specs.Holdings.{Asker, holds_nothing, modes_of, no_view}
+use Rattle.cx_rules_session.specs.cx_rules.specs.Holdings.{MonClient, holds_nothing, modes_of, no_view}
 use Rattle.cx_rules_session.specs.cx_rules.specs.Monitor.{MonitorNode}
 use Rattle.cx_rules_session.specs.cx_rules.specs.MonitorRule.{opening_monitor}
 use Rattle.cx_rules_session.specs.DaemonRule.{DaemonState, opening_daemon}
@@ -132,8 +132,8 @@ modes_in Both = modes_of true true
 abbrev pub modes_offered : Declared → List ℕ
 modes_offered e = if is_daemon_type e.name.kind then modes_of false true else modes_in e.modes
 
-abbrev pub asker_of : Declared → Asker
-asker_of e = record {
+abbrev pub mon_client_of : Declared → MonClient
+mon_client_of e = record {
   name = e.name;
   secret = secret_of e;
   address = local e.number 0;
@@ -144,12 +144,12 @@ asker_of e = record {
 }
 
 -- a daemon as it begins, which has no session
-abbrev pub daemon_opening : Asker → DaemonState
-daemon_opening asker = record { node = opening_daemon asker; book = empty_book }
+abbrev pub daemon_opening : MonClient → DaemonState
+daemon_opening mon_client = record { node = opening_daemon mon_client; book = empty_book }
 
 -- the node of an entity, by its type
 abbrev pub entity_in : Declared → EntityNode
-entity_in e = if is_daemon_type e.name.kind then OfDaemon (daemon_opening (asker_of e)) else OfClient (opening_whole_client (asker_of e))
+entity_in e = if is_daemon_type e.name.kind then OfDaemon (daemon_opening (mon_client_of e)) else OfClient (opening_whole_client (mon_client_of e))
 
 abbrev pub nodes_of : Setup → Nodes
 nodes_of setup = record { monitor = monitor_of setup; entities = map entity_in setup.entities; handlers = setup.handlers }

@@ -3,7 +3,7 @@ use Rattle.std.specs.Prelude.{Bool, true, ◌&&◌, List}
 use Rattle.std.specs.List.{AllByRecursion}
 use Rattle.cx_base.specs.Texts.{is_part}
 use Rattle.cx_base.specs.declared.operations.Operation.{Operation}
-use Rattle.cx_lines.specs.cx_line_words.specs.Values.{is_fit}
+use Rattle.cx_lines.specs.cx_words.specs.lines.Values.{is_fit}
 use Rattle.cx_lines.specs.declared.commands.LineCommand.{LineCommand}
 use Rattle.cx_lines.specs.declared.commands.LineCommand.TheVariants as command
 use Rattle.cx_lines.specs.declared.lines.Line.{Line}

@@ -1,4 +1,4 @@
--- What may come to the entities of a run, and doesn't: a view that is told by hand, which no schedule brings about, and guests.
+-- What may come to the entities of a run, and doesn't: a view that is told by hand, which no schedule brings about, and clients.
 use Rattle.std.specs.Prelude.{List, None}
 use Rattle.std.specs.List.{AllByRecursion}
 use Rattle.cx_base.specs.declared.nodes.NodeName.{NodeName}
@@ -18,7 +18,7 @@ IsNoLook _ = Unit {0}
 abbrev pub AreUntold : List Happening → Type 0
 AreUntold hs = AllByRecursion (λ (h : Happening). IsNoLook h.input) hs
 
--- ---- guests
+-- ---- clients
 
 -- no view is told but by a reply, no client is told to connect, no session is dropped, and no link opens at an entity but one that it opens itself
 abbrev pub IsUnvisited : NodeName → Input → Type 0

@@ -3,8 +3,8 @@ use Rattle.std.specs.Prelude.{ℕ, ◌==◌, ◌&&◌, not, Bool, true, false, L
 use Rattle.cx_base.specs.Names.{same_name}
 use Rattle.cx_base.specs.declared.nodes.NodeName.{NodeName}
 use Rattle.cx_base.specs.declared.nodes.NodeName.TheVariants as node
-use Rattle.cx_lines.specs.cx_line_words.specs.declared.choices.Side.{Side}
-use Rattle.cx_lines.specs.cx_line_words.specs.declared.choices.Side.TheVariants.{Connector, Acceptor}
+use Rattle.cx_lines.specs.cx_words.specs.declared.choices.Side.{Side}
+use Rattle.cx_lines.specs.cx_words.specs.declared.choices.Side.TheVariants.{Connector, Acceptor}
 
 -- one end of a link: whether its node still has it; the pieces that it sent and that are under way, the oldest first; and all pieces that it
 -- ever sent

@@ -4,7 +4,7 @@ use Rattle.std.specs.Prelude.{ℕ, suc, List, [], ◌∷◌, ◌++◌, find, map
 use Rattle.cx_rules_session.specs.cx_dice.specs.Rolls.{seed_draw}
 use Rattle.cx_base.specs.declared.nodes.NodeName.{NodeName}
 use Rattle.cx_base.specs.declared.nodes.NodeName.TheVariants as node
-use Rattle.cx_lines.specs.cx_line_words.specs.declared.choices.LeftState.{LeftState}
+use Rattle.cx_lines.specs.cx_words.specs.declared.choices.LeftState.{LeftState}
 use Rattle.cx_rules_session.specs.cx_rules.specs.Inputs.{Input}
 use Rattle.cx_rules_session.specs.cx_steps.specs.declared.effects.Effects.{Effects}
 use Rattle.cx_rules_session.specs.cx_steps.specs.declared.effects.Piece.{Piece}

@@ -4,7 +4,7 @@ ghost use Rattle.std.specs.Prelude.{◌≡◌, ◌≤◌, ◌<◌, ℕ, List, le
 ghost use Rattle.std.specs.List.{list_all};
 ghost use Rattle.cx_base.specs.declared.nodes.NodeName.{NodeName};
 ghost use Rattle.cx_rules_session.specs.cx_desk.specs.Handlers.{Handlers};
-ghost use Rattle.cx_lines.specs.cx_line_words.specs.declared.known.Known.{Known};
+ghost use Rattle.cx_lines.specs.cx_words.specs.declared.known.Known.{Known};
 ghost use Rattle.cx_lines.specs.Lines.{Spells};
 ghost use Rattle.cx_lines.specs.declared.lines.Line.{Line};
 ghost use Rattle.cx_lines.specs.declared.lines.Numbered.{Numbered};
@@ -47,7 +47,7 @@ pub fn sending_laws()
 /// names.
 pub fn client_laws()
     ensures name { (c : WholeClientNode) (input : Input) (reading : ℕ) (draw : List ℕ)
-        → (whole_client_rule c input reading draw).state.own.asker.name ≡ c.own.asker.name }
+        → (whole_client_rule c input reading draw).state.own.mon_client.name ≡ c.own.mon_client.name }
     ensures opens { (c : WholeClientNode) (input : Input) (reading : ℕ) (draw : List ℕ)
         → OpensAsTold input (whole_client_rule c input reading draw).out }
 {}

@@ -11,9 +11,9 @@ use Rattle.std.proofs.lemmas.List.Folds.{list_all-append, list_any-append}
 use Rattle.cx_base.specs.Names.{Name, is_id, same_name}
 use Rattle.cx_base.specs.declared.kinds.EntityType.TheVariants.{Client}
 use Rattle.cx_words.specs.Cutting.{is_line_end, is_skipped, lines_of, onto_first}
-use Rattle.cx_line_words.specs.declared.known.Known.{Known}
-use Rattle.cx_line_words.specs.Known.{is_client, is_daemon, nothing}
-use Rattle.cx_line_words.specs.Named.{is_among}
+use Rattle.cx_words.specs.declared.known.Known.{Known}
+use Rattle.cx_words.specs.lines.Known.{is_client, is_daemon, nothing}
+use Rattle.cx_words.specs.lines.Named.{is_among}
 use Rattle.cx_lines.specs.declared.commands.LineCommand.TheVariants as command
 use Rattle.cx_lines.specs.declared.lines.Line.{Line}
 use Rattle.cx_lines.specs.declared.lines.Line.TheVariants as line

@@ -5,19 +5,19 @@ use Rattle.std.specs.Option.{option_map}
 use Rattle.std.specs.Str.{bytes_eq}
 use Rattle.std.proofs.lemmas.Slice.Eq.{bytes_eq-Decides}
 use Rattle.cx_words.specs.Cutting.{lines_of, IsShort}
-use Rattle.cx_line_words.specs.declared.choices.CommandForm.{CommandForm}
-use Rattle.cx_line_words.specs.declared.choices.CommandForm.TheVariants as command
-use Rattle.cx_line_words.specs.declared.faults.FaultAt.{FaultAt}
-use Rattle.cx_line_words.specs.declared.known.Known.{Known}
-use Rattle.cx_line_words.specs.declared.places.WordPlace.{WordPlace}
-use Rattle.cx_line_words.specs.Choices.{command_form_of, command_word}
-use Rattle.cx_line_words.specs.Faults.{fault_among}
-use Rattle.cx_line_words.specs.Known.{nothing}
-use Rattle.cx_line_words.specs.Places.{are_good}
-use Rattle.cx_line_words.specs.Values.{Item, NumberOf, SpellsItems}
-use Rattle.cx_line_words.proofs.ChoiceLemmas.{chosen-is, command_form_of-is}
-use Rattle.cx_line_words.proofs.Faultless.{faultless, none_among}
-use Rattle.cx_line_words.proofs.ValueLemmas.{Values, all_good, as_many, items_back, place_of, values_in}
+use Rattle.cx_words.specs.declared.choices.CommandForm.{CommandForm}
+use Rattle.cx_words.specs.declared.choices.CommandForm.TheVariants as command
+use Rattle.cx_words.specs.declared.faults.FaultAt.{FaultAt}
+use Rattle.cx_words.specs.declared.known.Known.{Known}
+use Rattle.cx_words.specs.declared.places.WordPlace.{WordPlace}
+use Rattle.cx_words.specs.lines.Choices.{command_form_of, command_word}
+use Rattle.cx_words.specs.lines.Faults.{fault_among}
+use Rattle.cx_words.specs.lines.Known.{nothing}
+use Rattle.cx_words.specs.lines.Places.{are_good}
+use Rattle.cx_words.specs.lines.Values.{Item, NumberOf, SpellsItems}
+use Rattle.cx_words.proofs.lines.ChoiceLemmas.{chosen-is, command_form_of-is}
+use Rattle.cx_words.proofs.lines.Faultless.{faultless, none_among}
+use Rattle.cx_words.proofs.lines.ValueLemmas.{Values, all_good, as_many, items_back, place_of, values_in}
 use Rattle.cx_lines.specs.declared.lines.Head.{Head}
 use Rattle.cx_lines.specs.declared.lines.Head.TheVariants as head
 use Rattle.cx_lines.specs.declared.lines.Line.{Line}

@@ -4,8 +4,8 @@ use Rattle.std.specs.Prelude.{fold}
 use Rattle.std.specs.List.{list_all}
 use Rattle.std.proofs.lemmas.List.Folds.{list_all-append}
 use Rattle.cx_words.specs.Cutting.{IsShort}
-use Rattle.cx_line_words.specs.declared.known.Known.{Known}
-use Rattle.cx_line_words.specs.Known.{nothing}
+use Rattle.cx_words.specs.declared.known.Known.{Known}
+use Rattle.cx_words.specs.lines.Known.{nothing}
 use Rattle.cx_lines.specs.declared.lines.Line.{Line}
 use Rattle.cx_lines.specs.declared.lines.Numbered.{Numbered}
 use Rattle.cx_lines.specs.Knowing.{known_of, knowing, knowing_numbered}

@@ -4,16 +4,16 @@ use Rattle.std.specs.Prelude.{ℕ, ◌≡◌, Bool, true, false, List, [], ◌�
 use Rattle.std.specs.Option.{option_map}
 use Rattle.std.specs.Str.{bytes_eq}
 use Rattle.cx_base.specs.Names.{Name, is_daemon_type}
-use Rattle.cx_line_words.specs.declared.choices.CommandForm.TheVariants as command
-use Rattle.cx_line_words.specs.declared.faults.FaultAt.{FaultAt}
-use Rattle.cx_line_words.specs.declared.known.Known.{Known}
-use Rattle.cx_line_words.specs.declared.places.WordPlace.{WordPlace}
-use Rattle.cx_line_words.specs.declared.places.WordPlace.TheVariants as at
-use Rattle.cx_line_words.specs.Choices.{chosen, command_form_of}
-use Rattle.cx_line_words.specs.Faults.{fault_among}
-use Rattle.cx_line_words.specs.Known.{nothing}
-use Rattle.cx_line_words.specs.Sights.{first_hint, shown_of, word_at}
-use Rattle.cx_line_words.specs.Values.{Item, NumberOf, SpellsItems}
+use Rattle.cx_words.specs.declared.choices.CommandForm.TheVariants as command
+use Rattle.cx_words.specs.declared.faults.FaultAt.{FaultAt}
+use Rattle.cx_words.specs.declared.known.Known.{Known}
+use Rattle.cx_words.specs.declared.places.WordPlace.{WordPlace}
+use Rattle.cx_words.specs.declared.places.WordPlace.TheVariants as at
+use Rattle.cx_words.specs.lines.Choices.{chosen, command_form_of}
+use Rattle.cx_words.specs.lines.Faults.{fault_among}
+use Rattle.cx_words.specs.lines.Known.{nothing}
+use Rattle.cx_words.specs.lines.Sights.{first_hint, shown_of, word_at}
+use Rattle.cx_words.specs.lines.Values.{Item, NumberOf, SpellsItems}
 use Rattle.cx_lines.specs.declared.lines.Head.{Head}
 use Rattle.cx_lines.specs.declared.lines.Head.TheVariants as head
 use Rattle.cx_lines.specs.declared.lines.Line.{Line}

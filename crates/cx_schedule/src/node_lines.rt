@@ -2,9 +2,9 @@
 
 ghost use Rattle.std.specs.Prelude.{◌≡◌, ◌∷◌, [], true, false, map, IfOk, IfErr, IfNone, IfSome, Some};
 ghost use Rattle.std.specs.Option.{option_map};
-ghost use Rattle.cx_line_words.specs.Known.{nothing};
-ghost use Rattle.cx_line_words.specs.Places.{is_whole};
-ghost use Rattle.cx_line_words.specs.Values.{NumberOf, SpellsItems};
+ghost use Rattle.cx_words.specs.lines.Known.{nothing};
+ghost use Rattle.cx_words.specs.lines.Places.{is_whole};
+ghost use Rattle.cx_words.specs.lines.Values.{NumberOf, SpellsItems};
 ghost use Rattle.cx_lines.specs.Lines.{head_word, unknown_word};
 ghost use Rattle.cx_lines.specs.Refusals.{IsLineCause};
 ghost use Rattle.cx_lines.specs.Sights.{place_at};
@@ -14,11 +14,11 @@ ghost use Rattle.cx_schedule.specs.declared.node_lines.ScriptForm.{ScriptForm};
 
 use crate::node_names::NodeNames;
 use cx_base::{Duplicate, EntityName};
-use cx_line_words::{
-    FaultAt, Known, LineFault, WordPlace, command_named, first_fault, hint_in, shown_of, word_at,
-};
 use cx_lines::{BadWord, Head, Line, LineCommand, LineRefusal, NodeForm, NodeStep, line_of};
-use cx_words::{is_word, number};
+use cx_words::{
+    FaultAt, Known, LineFault, WordPlace, command_named, first_fault, hint_in, is_word, number,
+    shown_of, word_at,
+};
 use std::alloc::{AllocError, Global};
 
 /// A line of the script of a node.

@@ -5,8 +5,8 @@ ghost use Rattle.std.specs.Option.{option_map};
 ghost use Rattle.cx_schedule.specs.NodeLines.{daemons_in, declaring, known_at, names_with, node_names};
 
 use cx_base::EntityName;
-use cx_line_words::{CommandForm, Known, Names};
 use cx_lines::Head;
+use cx_words::{CommandForm, Known, Names};
 use std::alloc::{AllocError, Global};
 
 /// The names that may stand in the script of a node.

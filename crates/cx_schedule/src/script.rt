@@ -13,9 +13,8 @@ ghost use Rattle.cx_schedule.specs.declared.refusals.ScheduleRefusal.{ScheduleRe
 
 use crate::refusals::ScheduleRefusal;
 use cx_base::{Duplicate, Items, copy_items};
-use cx_line_words::Known;
 use cx_lines::{Line, LineRefusal, Numbered, line_of, note};
-use cx_words::{first_line, is_short, is_skipped, words};
+use cx_words::{Known, first_line, is_short, is_skipped, words};
 use std::alloc::{AllocError, Global};
 use std::marker::Model;
 

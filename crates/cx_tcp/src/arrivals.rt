@@ -1,12 +1,12 @@
 //! Peers that open links to a table.
 
 ghost use Rattle.std.specs.Prelude.{ℕ, ◌≡◌, ◌<◌, IfSome};
-ghost use Rattle.cx_links.specs.Events.{IsWithin};
+ghost use Rattle.cx_outside.specs.linking.Events.{IsWithin};
 
 use crate::limits::MOST;
 use crate::table::{LISTENER, Table, address_of};
 use cx_base::Addr;
-use cx_links::LinkEvent;
+use cx_outside::LinkEvent;
 use mio::net::{TcpListener, TcpStream};
 use mio::{Interest, Token};
 use std::io;

@@ -3,7 +3,7 @@
 ghost use Rattle.std.specs.Prelude.{◌<◌};
 
 use cx_base::Reading;
-use cx_clock::Clock;
+use cx_outside::Clock;
 use std::time;
 use std::time::SystemTime;
 

@@ -5,7 +5,7 @@ ghost use Rattle.cx_base.specs.Streams.{Rose};
 
 use crate::table::Table;
 use cx_base::{Addr, Failed};
-use cx_links::{LinkEvent, Links, Regard};
+use cx_outside::{LinkEvent, Links, Regard};
 use std::alloc::{AllocError, Global};
 use std::io;
 use std::io::Eprint;

@@ -5,7 +5,7 @@ ghost use Rattle.cx_tcp.specs.Serving.{IsServedWithin};
 
 use bytes::{Buf, BytesMut};
 use cx_base::Addr;
-use cx_links::Regard;
+use cx_outside::Regard;
 use mio::event::Event;
 use mio::net::TcpStream;
 use std::alloc::{AllocError, Global};

@@ -1,14 +1,14 @@
 //! The table of links over TCP.
 
 ghost use Rattle.std.specs.Prelude.{ℕ, ◌≡◌, ◌<◌, length, IfOk, IfSome};
-ghost use Rattle.cx_links.specs.Events.{IsWithin};
+ghost use Rattle.cx_outside.specs.linking.Events.{IsWithin};
 
 use crate::dials::Dials;
 use crate::displacing::Displacing;
 use crate::limits;
 use crate::socket::{Served, Socket};
 use cx_base::Addr;
-use cx_links::{LinkEvent, Regard};
+use cx_outside::{LinkEvent, Regard};
 use mio::net::{TcpListener, TcpStream};
 use mio::{Events, Interest, Poll, Token};
 use std::alloc::{AllocError, Global};

@@ -2,7 +2,7 @@
 
 use crate::lines::Pair;
 use crate::sockets::right;
-use cx_links::{LinkEvent, Links};
+use cx_outside::{LinkEvent, Links};
 
 const PIECE: usize = 65_536;
 

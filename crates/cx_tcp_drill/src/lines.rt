@@ -1,7 +1,7 @@
 //! What all trials of sockets begin with: a node that listens, one that opens, and a wait for what comes.
 
 use cx_base::{Addr, Failed};
-use cx_links::{LinkEvent, Links};
+use cx_outside::{LinkEvent, Links};
 use cx_tcp::TcpLinks;
 use std::process;
 

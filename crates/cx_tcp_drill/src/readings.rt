@@ -2,9 +2,8 @@
 
 use crate::lines::Pair;
 use crate::sockets::right;
-use cx_clock::Clock;
 use cx_dice::Dice;
-use cx_links::{LinkEvent, Links};
+use cx_outside::{Clock, LinkEvent, Links};
 use cx_tcp::{SystemClock, SystemDice};
 use std::collections::HashSet;
 use std::time::{Duration, Instant};

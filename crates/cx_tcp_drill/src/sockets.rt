@@ -1,7 +1,7 @@
 //! One link at a time.
 
 use crate::lines::{Pair, address, come, comes, goes};
-use cx_links::{LinkEvent, Links};
+use cx_outside::{LinkEvent, Links};
 use cx_tcp::TcpLinks;
 use std::time::{Duration, Instant};
 
@@ -42,7 +42,7 @@ fn early(pair: &mut Pair<'_>) -> Option<()> {
     pair.client.send(near, b"first ").ok()?;
     pair.client.send(near, b"words").ok()?;
     let opened = come(&mut pair.server, &mut [0; 16])?;
-    right(opened == cx_links::LinkEvent::Opened(1))?;
+    right(opened == cx_outside::LinkEvent::Opened(1))?;
     pair.settle()?;
     right(comes(&mut pair.server, 1, b"first words"))
 }

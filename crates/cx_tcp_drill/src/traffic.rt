@@ -2,7 +2,7 @@
 
 use crate::lines::{Pair, come};
 use crate::sockets::right;
-use cx_links::{LinkEvent, Links, Regard};
+use cx_outside::{LinkEvent, Links, Regard};
 use std::time::{Duration, Instant};
 
 const PIECE: usize = 65_536;

@@ -2,10 +2,10 @@
 
 ghost use Rattle.std.specs.Prelude.{◌≡◌};
 ghost use Rattle.std.specs.List.{list_all};
-ghost use Rattle.cx_clock.specs.Readings.{is_clock_reading};
+ghost use Rattle.cx_outside.specs.timing.Readings.{is_clock_reading};
 
 use cx_base::{Items, Reading};
-use cx_clock::{Clock, ListClock, Place, clock_law};
+use cx_outside::{Clock, ListClock, Place, clock_law};
 use std::alloc::Global;
 use std::process::Abort;
 

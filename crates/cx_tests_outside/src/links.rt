@@ -1,7 +1,7 @@
 //! Links in memory: numbers, pieces, room, calls that fail, and events on links that don't live.
 
 use cx_base::{Addr, Blob, Items};
-use cx_links::{LinkCall, LinkEvent, Links, ScriptLinks};
+use cx_outside::{LinkCall, LinkEvent, Links, ScriptLinks};
 use std::alloc::Global;
 use std::process::Abort;
 

@@ -1,9 +1,9 @@
 //! Scripts of nodes: that those of each kind of node are read, and which fault of which word a bad line has, with its sentence.
 
 use cx_base::{Duplicate, EntityName};
-use cx_line_help::{LineSight, WrongInScript};
-use cx_line_words::LineFault;
+use cx_help::{LineSight, WrongInScript};
 use cx_schedule::{NodeLine, NodeScript, ScheduleRefusal, read_node};
+use cx_words::LineFault;
 use std::alloc::Global;
 use std::process::Abort;
 

@@ -1,8 +1,8 @@
 //! Schedules: that a file of all forms and the longest one are read, which fault of which word a bad line has, and the limits.
 
 use cx_base::Duplicate;
-use cx_line_words::LineFault;
 use cx_schedule::{ScheduleRefusal, Script, read};
+use cx_words::LineFault;
 use std::alloc::Global;
 use std::process::Abort;
 

@@ -4,11 +4,11 @@ use Rattle.cx_desk.specs.Handlers.{Handlers}
 use Rattle.cx_journal.specs.JournalText.{journal_text}
 use Rattle.cx_journal.specs.declared.entries.Entry.{Entry}
 use Rattle.cx_journal.specs.declared.premises.Broken.{Broken}
-use Rattle.cx_line_help.specs.Sights.{line_at, sight_of}
-use Rattle.cx_line_help.specs.declared.sights.LineSight.{LineSight}
+use Rattle.cx_help.specs.line.Sights.{line_at, sight_of}
+use Rattle.cx_help.specs.declared.sights.LineSight.{LineSight}
 use Rattle.cx_lines.specs.declared.lines.Numbered.{Numbered}
 use Rattle.cx_lines.specs.declared.sight.BadWord.{BadWord}
-use Rattle.cx_replay.specs.Serving.{IsReplayOf, idle_lines, told}
+use Rattle.cx_world.specs.replay.Serving.{IsReplayOf, idle_lines, told}
 use Rattle.cx_schedule.specs.Files.{Lines}
 use Rattle.cx_words.specs.Cutting.{IsShort, lines_of}
 use Rattle.cx_top.specs.Notes.{schedule_told}

@@ -3,9 +3,9 @@ use Rattle.std.proofs.Common.{◌≡◌, ℕ, ◌⊎◌, inl, inr, List, Some, N
 use Rattle.cx_audit.specs.Verdicts.{IsAuditCause, IsRefusedAt}
 use Rattle.cx_audit.specs.declared.verdicts.AuditRefusal.{AuditRefusal}
 use Rattle.cx_audit.specs.declared.verdicts.AuditRefusal.TheVariants as audit
-use Rattle.cx_journal_lines.specs.Reading.{IsFirstBad, IsJournal, nothing}
-use Rattle.cx_journal_lines.specs.declared.entries.JournalLine.{JournalLine}
-use Rattle.cx_journal_lines.specs.declared.refusals.WrongLine.{WrongLine}
+use Rattle.cx_audit_text.specs.lines.Reading.{IsFirstBad, IsJournal, nothing}
+use Rattle.cx_audit_text.specs.declared.entries.JournalLine.{JournalLine}
+use Rattle.cx_audit_text.specs.declared.refusals.WrongLine.{WrongLine}
 use Rattle.cx_keyring.specs.declared.refusals.KeyringRefusal.{KeyringRefusal}
 use Rattle.cx_keyring.specs.declared.refusals.KeyringRefusal.TheVariants as keyring
 use Rattle.cx_keyring.specs.Rings as rings

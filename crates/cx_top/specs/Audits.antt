@@ -2,7 +2,7 @@
 use Rattle.std.specs.Prelude.{ℕ, List, []}
 use Rattle.cx_audit.specs.declared.verdicts.Verdict.{Verdict}
 use Rattle.cx_audit.specs.declared.verdicts.Verdict.TheVariants.{Legal, Breaks}
-use Rattle.cx_audit_help.specs.Said.{breach_text}
+use Rattle.cx_help.specs.audit.Said.{breach_text}
 use Rattle.cx_top.specs.Told.{line_told}
 
 abbrev pub verdict_told : Verdict → List ℕ

@@ -1,8 +1,8 @@
 -- Why a command refuses its input, and how it must end where nothing is in its way.
 use Rattle.std.specs.Prelude.{ℕ, ◌<◌, ◌≤◌, ◌≡◌, ◌⊎◌, List, [], length, drop, string_bytes, Option, Some, None}
 use Rattle.cx_base.specs.Streams.{Rose}
-use Rattle.cx_journal_lines.specs.Reading.{IsFirstBad, IsJournal, nothing}
-use Rattle.cx_journal_lines.specs.declared.entries.JournalLine.{JournalLine}
+use Rattle.cx_audit_text.specs.lines.Reading.{IsFirstBad, IsJournal, nothing}
+use Rattle.cx_audit_text.specs.declared.entries.JournalLine.{JournalLine}
 use Rattle.cx_keyring.specs.declared.entries.Entry.{Entry}
 use Rattle.cx_keyring.specs.declared.faults.KeyringFault.{KeyringFault}
 use Rattle.cx_keyring.specs.declared.refusals.KeyringRefusal.TheVariants as keyring

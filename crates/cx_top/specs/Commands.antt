@@ -2,7 +2,7 @@
 use Rattle.std.specs.Prelude.{ℕ, ◌≤◌, ◌≡◌, Bool, false, List, length, codes, Option}
 use Rattle.cx_audit.specs.Verdicts.{IsAudit}
 use Rattle.cx_audit.specs.declared.verdicts.Verdict.{Verdict}
-use Rattle.cx_audit_help.specs.Said.{verdict_text}
+use Rattle.cx_help.specs.audit.Said.{verdict_text}
 use Rattle.cx_base.specs.Streams.{Takes, TakesFront}
 use Rattle.cx_desk.specs.Handlers.{Handlers}
 use Rattle.cx_keyring.specs.declared.entries.Entry.{Entry}

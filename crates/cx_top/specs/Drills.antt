@@ -6,9 +6,9 @@ use Rattle.cx_journal.specs.JournalText.{journal_text}
 use Rattle.cx_journal.specs.declared.entries.Entry.{Entry}
 use Rattle.cx_journal.specs.declared.entries.Entry.TheVariants as entry
 use Rattle.cx_journal.specs.declared.premises.Broken.{Broken}
-use Rattle.cx_replay.specs.Serving.{IsReplayOf, idle_lines}
+use Rattle.cx_world.specs.replay.Serving.{IsReplayOf, idle_lines}
 use Rattle.cx_schedule.specs.Drills.{drill_script}
-use Rattle.cx_summary.specs.Summaries.{summary_of, summary_text}
+use Rattle.cx_top.specs.summary.Summaries.{summary_of, summary_text}
 use Rattle.cx_top.specs.Told.{run_told}
 
 -- the line of the first breach, where there is one

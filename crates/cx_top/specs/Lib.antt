@@ -1,3 +1,4 @@
+pub mod summary
 pub mod Audits
 pub mod Causes
 pub mod Commands

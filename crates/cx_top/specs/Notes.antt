@@ -1,7 +1,7 @@
 -- What is said on standard error of the caps of entities: of a keyring that is read each clause, of a schedule those that grant nothing.
 use Rattle.std.specs.Prelude.{ℕ, true, false, List, []}
 use Rattle.std.specs.List.{flat_map}
-use Rattle.cx_keyring_help.specs.Clauses.{caps_told, lines_told}
+use Rattle.cx_help.specs.keyring.Clauses.{caps_told, lines_told}
 use Rattle.cx_lines.specs.declared.lines.Line.{Line}
 use Rattle.cx_lines.specs.declared.lines.Line.TheVariants as line
 use Rattle.cx_lines.specs.declared.lines.Numbered.{Numbered}

@@ -2,12 +2,12 @@
 use Rattle.std.specs.Prelude.{ℕ, List, [], codes, Some, None}
 use Rattle.std.specs.Fmt.{decimal}
 use Rattle.cx_base.specs.Joined.{◌<>◌}
-use Rattle.cx_audit_help.specs.Wrong.{wrong_in_journal_text}
+use Rattle.cx_help.specs.audit.Wrong.{wrong_in_journal_text}
 use Rattle.cx_command_line.specs.Forms.{help_text}
-use Rattle.cx_keyring_help.specs.Sentences.{wrong_keyring_text}
-use Rattle.cx_keyring_help.specs.declared.details.Detail.TheVariants.{Nothing}
-use Rattle.cx_line_help.specs.Wrong.{wrong_text}
-use Rattle.cx_line_help.specs.declared.sights.LineSight.{LineSight}
+use Rattle.cx_help.specs.keyring.Sentences.{wrong_keyring_text}
+use Rattle.cx_help.specs.declared.details.Detail.TheVariants.{Nothing}
+use Rattle.cx_help.specs.line.Wrong.{wrong_text}
+use Rattle.cx_help.specs.declared.sights.LineSight.{LineSight}
 use Rattle.cx_top.specs.declared.status.Status.{Status}
 use Rattle.cx_top.specs.declared.status.Status.TheVariants.{Done, Usage, BadSchedule, ReadFault, WriteFault, OutOfMemory, BadKeyring, Broken, TooLong, BadJournal}
 

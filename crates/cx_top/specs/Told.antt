@@ -3,18 +3,18 @@
 use Rattle.std.specs.Prelude.{ℕ, ◌==◌, Bool, true, false, List, [], ◌∷◌, codes, Option, Some, None, if◌then◌else◌}
 use Rattle.std.specs.Fmt.{decimal}
 use Rattle.std.specs.Str.{bytes_eq}
-use Rattle.cx_audit_help.specs.Wrong.{wrong_in_journal_text}
+use Rattle.cx_help.specs.audit.Wrong.{wrong_in_journal_text}
 use Rattle.cx_base.specs.Joined.{◌<>◌}
 use Rattle.cx_base.specs.Nodes.{node_text}
 use Rattle.cx_journal.specs.Words.{key_kind_word}
 use Rattle.cx_journal.specs.declared.premises.Broken.{Broken}
 use Rattle.cx_journal.specs.declared.premises.Premise.{Premise}
 use Rattle.cx_journal.specs.declared.premises.Premise.TheVariants as premise
-use Rattle.cx_keyring_help.specs.Details.{detail_of}
-use Rattle.cx_keyring_help.specs.Sentences.{wrong_keyring_text}
-use Rattle.cx_line_help.specs.Sights.{line_at, sight_of}
-use Rattle.cx_line_help.specs.Words.{word_text}
-use Rattle.cx_line_words.specs.Sights.{shown_of}
+use Rattle.cx_help.specs.keyring.Details.{detail_of}
+use Rattle.cx_help.specs.keyring.Sentences.{wrong_keyring_text}
+use Rattle.cx_help.specs.line.Sights.{line_at, sight_of}
+use Rattle.cx_help.specs.line.Words.{word_text}
+use Rattle.cx_words.specs.lines.Sights.{shown_of}
 use Rattle.cx_words.specs.Cutting.{lines_of}
 use Rattle.cx_top.specs.declared.status.Status.{Status}
 use Rattle.cx_top.specs.declared.status.Status.TheVariants.{Done, Usage, BadSchedule, ReadFault, WriteFault, OutOfMemory, BadKeyring, Broken as BrokenStatus, TooLong, BadJournal}

@@ -1,7 +1,7 @@
 //! The command `audit`.
 
 ghost use Rattle.std.specs.Prelude.{◌≡◌, false, IfOk, IfErr, MatchResult, string_bytes};
-ghost use Rattle.cx_audit_help.specs.Said.{verdict_text};
+ghost use Rattle.cx_help.specs.audit.Said.{verdict_text};
 ghost use Rattle.cx_top.specs.Causes.{IsAnswered, IsBytesCause, IsReasonFor};
 ghost use Rattle.cx_top.specs.Commands.{Audits};
 ghost use Rattle.cx_top.specs.Statuses.{IsOrMemory};
@@ -12,8 +12,8 @@ use crate::commands::Made;
 use crate::status::Status;
 use crate::told::verdict_told;
 use cx_audit::{Verdict, audit};
-use cx_audit_help::VerdictLine;
 use cx_base::Blob;
+use cx_help::VerdictLine;
 use cx_words::is_short;
 use std::alloc::{AllocError, Global};
 

@@ -5,7 +5,7 @@ ghost use Rattle.cx_base.specs.Streams.{Rose};
 ghost use Rattle.cx_desk.specs.Held.{handlers_of};
 ghost use Rattle.cx_schedule.specs.Drills.{drill_script, drill_text};
 ghost use Rattle.cx_schedule.specs.Files.{Lines};
-ghost use Rattle.cx_summary.specs.Summaries.{summary_text};
+ghost use Rattle.cx_top.specs.summary.Summaries.{summary_text};
 ghost use Rattle.cx_words.specs.Cutting.{IsShort};
 ghost use Rattle.cx_top.specs.Drills.{DrillWrites, DrillWritesFront, Drills, breach_line};
 ghost use Rattle.cx_top.specs.Statuses.{IsServed};
@@ -15,12 +15,12 @@ use crate::commands::Made;
 use crate::program_end::ProgramEnd;
 use crate::status::Status;
 use crate::told::run_told;
+use crate::{Summary, summary_of};
 use cx_base::{Blob, Sink};
 use cx_desk::Desk;
 use cx_journal::{Broken, Entry, Journal, put_text};
-use cx_replay::replay;
 use cx_schedule::{Script, drill_law};
-use cx_summary::{Summary, summary_of};
+use cx_world::replay;
 use std::alloc::{AllocError, Global};
 
 /// Runs the schedule of a drill of so many clients, 1 to 1,000, by a seed, and writes to `out` how many entries of five kinds its journal has, a line each, and

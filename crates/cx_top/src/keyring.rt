@@ -9,8 +9,8 @@ ghost use Rattle.cx_top.specs.declared.status.Status.{Status};
 
 use crate::commands::Made;
 use crate::status::Status;
+use cx_help::ring_told;
 use cx_keyring::{parse, print};
-use cx_keyring_help::ring_told;
 use cx_words::is_short;
 use std::alloc::Global;
 

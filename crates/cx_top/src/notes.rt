@@ -5,8 +5,8 @@ ghost use Rattle.cx_top.specs.Notes.{dead_in, schedule_told};
 ghost use Rattle.cx_top.specs.Told.{run_told};
 
 use crate::told::run_told;
+use cx_help::caps_told;
 use cx_journal::Broken;
-use cx_keyring_help::caps_told;
 use cx_lines::{Line, Numbered, Setting};
 use std::alloc::{AllocError, Global};
 

@@ -13,7 +13,7 @@ use crate::notes::replay_told;
 use crate::status::Status;
 use cx_base::Blob;
 use cx_desk::Desk;
-use cx_replay::put_report;
+use cx_world::put_report;
 use std::alloc::Global;
 
 /// The text of the journal of the schedule that these bytes are, run over this desk, and behind it, where a premise is broken, the first breach.
@@ -24,7 +24,7 @@ pub fn replayed(alloc: Global, bytes: &[u8], desk: &Desk) -> Result<Made, Status
     ensures exact { (why : Status) → IsReasonFor Replay bytes.now why → MatchResult result (λ made. ⊥) (IsOrMemory why) }
 {
     let script = cx_schedule::read(alloc, bytes)?;
-    let report = cx_replay::replay(alloc, &script, desk)?;
+    let report = cx_world::replay(alloc, &script, desk)?;
     let is_broken = report.broken.is_some();
     let told = replay_told(alloc, script.lines(), &report.broken, report.idle)?;
     let mut text = Blob::new(alloc);

@@ -1,12 +1,10 @@
 //! What a user reads of each status: what was wrong, and what to try; and what is said of an input or a run besides.
 
 use crate::status::Status;
-use cx_audit_help::WrongInJournal;
 use cx_command_line::Help;
+use cx_help::{Detail, LineSight, Word, Wrong, WrongInJournal, WrongInKeyring};
 use cx_journal::{Broken, Premise};
-use cx_keyring_help::{Detail, WrongInKeyring};
-use cx_line_help::{LineSight, Word, Wrong};
-use cx_line_words::shown_of;
+use cx_words::shown_of;
 use std::fmt;
 
 /// A sentence for each status but `Done`, which has none: what it tells by itself; for wrong words the commands that are served,

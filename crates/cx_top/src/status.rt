@@ -5,7 +5,7 @@ ghost use Rattle.cx_top.specs.Statuses.{number_of};
 
 use crate::input::Unread;
 use cx_audit::AuditRefusal;
-use cx_journal_lines::WrongLine;
+use cx_audit_text::WrongLine;
 use cx_keyring::{KeyringFault, KeyringRefusal};
 use cx_lines::BadWord;
 use cx_schedule::ScheduleRefusal;

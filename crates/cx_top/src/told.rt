@@ -12,12 +12,12 @@ use crate::program_end::ProgramEnd;
 use crate::sentences::{BreachTold, ExtraWord, IdleTold, OfSchedule};
 use crate::status::Status;
 use cx_audit::Verdict;
-use cx_audit_help::{BreachInJournal, WrongInJournal};
+use cx_audit_text::WrongLine;
+use cx_help::{
+    BreachInJournal, LineSight, WrongInJournal, WrongInKeyring, detail_of, line_at, sight_of,
+};
 use cx_journal::Broken;
-use cx_journal_lines::WrongLine;
 use cx_keyring::KeyringFault;
-use cx_keyring_help::{WrongInKeyring, detail_of};
-use cx_line_help::{LineSight, line_at, sight_of};
 use cx_lines::BadWord;
 use std::alloc::{AllocError, Global};
 

@@ -4,8 +4,8 @@ use Rattle.cx_verifying.specs.Stages.{link_held}
 use Rattle.cx_verifying.specs.declared.links.Stage.{Stage}
 use Rattle.cx_verifying.specs.declared.links.Stage.TheVariants as held
 use Rattle.cx_node.specs.cx_rules.specs.Abridged.{abridged_link}
-use Rattle.cx_turns.specs.Stages.{with_more}
-use Rattle.cx_turns.specs.Steps.{IsFed}
+use Rattle.cx_node.specs.steps.Stages.{with_more}
+use Rattle.cx_node.specs.steps.Steps.{IsFed}
 
 pub number_held : (number : ℕ) (stage : Stage) → (link_held number stage).number ≡ number
 number_held number (held.AwaitsBanner wire) = refl

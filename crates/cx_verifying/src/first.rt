@@ -7,7 +7,7 @@ ghost use Rattle.cx_rules_session.specs.cx_dice.specs.Draws.{challenge_of};
 ghost use Rattle.cx_link.specs.Wires.{wired};
 ghost use Rattle.cx_node.specs.cx_rules.specs.Acceptor.{AwaitsProof, AwaitsRequest};
 ghost use Rattle.cx_rules_session.specs.Envelopes.{authorize_challenge_content, sends_holding, session_sealed};
-ghost use Rattle.cx_rules_session.specs.Guests.{challenges, looked_entry, on_first, sealed_challenge_frame};
+ghost use Rattle.cx_rules_session.specs.IncomingLinks.{challenges, looked_entry, on_first, sealed_challenge_frame};
 ghost use Rattle.cx_rules_session.specs.Kinds.{entered_before};
 ghost use Rattle.cx_verifying.specs.Rows.{Makes};
 
@@ -16,67 +16,67 @@ use crate::links::{Link, Stage};
 use cx_authorize::{First, FirstPassed};
 use cx_base::Items;
 use cx_control::AuthReplyMore;
-use cx_holdings::Asker;
+use cx_holdings::MonClient;
 use cx_link::PlainLink;
+use cx_node::{Moment, NoRow, NodeRow, goes_on_unchanged, send_plain, unless_refused};
 use cx_steps::{DrawMark, SealEntry};
-use cx_turns::{Moment, NoRow, NodeRow, goes_on, send_plain, unless_refused};
 use std::alloc::Global;
 
 // The authorizer of this payload is judged by the view.
 pub(crate) fn on_first(
     alloc: Global,
-    asker: &Asker,
+    mon_client: &MonClient,
     at: &Moment<'_>,
     link: PlainLink,
     payload: &[u8],
 ) -> Result<NodeRow<Link, ()>, NoRow>
-    ensures { Makes asker.now at.now (wired at.now.number link AwaitsRequest) (λ a. on_first a payload.now) result }
+    ensures { Makes mon_client.now at.now (wired at.now.number link AwaitsRequest) (λ a. on_first a payload.now) result }
 {
-    let view = asker.view();
-    let kind = asker.name().kind;
+    let view = mon_client.view();
+    let kind = mon_client.name().kind;
     let challenge = at.draw.challenge();
     let mut opened = Items::new(alloc);
     let first = First::new(kind);
     match first.check(alloc, payload, &view, at.reading, challenge, &mut opened) {
-        Ok(passed) => challenged(alloc, asker, at, link, opened, passed),
-        Err(why) => turned_away(alloc, asker, at, opened, why),
+        Ok(passed) => challenged(alloc, mon_client, at, link, opened, passed),
+        Err(why) => turned_away(alloc, mon_client, at, opened, why),
     }
 }
 
 // One that passes is challenged, behind what opened of it.
 fn challenged(
     alloc: Global,
-    asker: &Asker,
+    mon_client: &MonClient,
     at: &Moment<'_>,
     link: PlainLink,
     opened: Items<SealEntry>,
     passed: FirstPassed,
 ) -> Result<NodeRow<Link, ()>, NoRow>
     requires { length passed.bytes < 2 ^ 32 }
-    ensures { (shown : Shown) → IsChallenged asker.now.name.kind (challenge_of at.now.draw.now.bytes) shown passed
-        → Makes asker.now at.now (wired at.now.number link AwaitsRequest) (λ a. entered_before (looked_entry a) (challenges a opened shown.ticket)) result }
+    ensures { (shown : Shown) → IsChallenged mon_client.now.name.kind (challenge_of at.now.draw.now.bytes) shown passed
+        → Makes mon_client.now at.now (wired at.now.number link AwaitsRequest) (λ a. entered_before (looked_entry a) (challenges a opened shown.ticket)) result }
 {
-    let made = challenges(alloc, asker, at, link, passed);
-    looked(alloc, asker, at, opened, made)
+    let made = challenges(alloc, mon_client, at, link, passed);
+    looked(alloc, mon_client, at, opened, made)
 }
 
 // A challenge is drawn, and sent behind that it was drawn.
 fn challenges(
     alloc: Global,
-    asker: &Asker,
+    mon_client: &MonClient,
     at: &Moment<'_>,
     link: PlainLink,
     passed: FirstPassed,
 ) -> Result<NodeRow<Link, ()>, NoRow>
     requires { length passed.bytes < 2 ^ 32 }
-    ensures { (shown : Shown) → IsChallenged asker.now.name.kind (challenge_of at.now.draw.now.bytes) shown passed
-        → Makes asker.now at.now (wired at.now.number link AwaitsRequest) (λ a. challenges a [] shown.ticket) result }
+    ensures { (shown : Shown) → IsChallenged mon_client.now.name.kind (challenge_of at.now.draw.now.bytes) shown passed
+        → Makes mon_client.now at.now (wired at.now.number link AwaitsRequest) (λ a. challenges a [] shown.ticket) result }
 {
     let challenge = at.draw.challenge();
     let mut drawn = Items::new(alloc);
     drawn.push(alloc, SealEntry::Drawn(DrawMark::Challenge(challenge)))?;
-    let me = asker.node_name(alloc)?;
-    let made = awaits_proof(alloc, asker, at, link, passed);
+    let me = mon_client.node_name(alloc)?;
+    let made = awaits_proof(alloc, mon_client, at, link, passed);
     let row = unless_refused(alloc, &me, at.number, drawn, made)?;
     Ok(row)
 }
@@ -84,14 +84,14 @@ fn challenges(
 // AUTH_REPLY_MORE is sent with the challenge, whose answer is waited for.
 fn awaits_proof(
     alloc: Global,
-    asker: &Asker,
+    mon_client: &MonClient,
     at: &Moment<'_>,
     link: PlainLink,
     passed: FirstPassed,
 ) -> Result<NodeRow<Link, ()>, NoRow>
     requires { length passed.bytes < 2 ^ 32 }
-    ensures { (shown : Shown) → IsChallenged asker.now.name.kind (challenge_of at.now.draw.now.bytes) shown passed
-        → Makes asker.now at.now (wired at.now.number link AwaitsRequest)
+    ensures { (shown : Shown) → IsChallenged mon_client.now.name.kind (challenge_of at.now.draw.now.bytes) shown passed
+        → Makes mon_client.now at.now (wired at.now.number link AwaitsRequest)
         (λ a. sends_holding a (AwaitsProof (record { service = a.own.name.kind; challenge = challenge_of a.draw })) []
         (session_sealed shown.ticket.session (authorize_challenge_content (challenge_of a.draw)) ∷ []) (sealed_challenge_frame shown.ticket.session (challenge_of a.draw))) result }
 {
@@ -104,5 +104,5 @@ fn awaits_proof(
     let mut seals = Items::new(alloc);
     seals.push(alloc, sealed)?;
     let link = Link::new(at.number, Stage::AwaitsProof(sent.link, awaiting));
-    Ok(goes_on(alloc, link, sent.bytes, seals))
+    Ok(goes_on_unchanged(alloc, link, sent.bytes, seals))
 }

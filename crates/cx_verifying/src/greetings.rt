@@ -6,32 +6,31 @@ ghost use Rattle.cx_node.specs.Made.{as_row};
 ghost use Rattle.cx_node.specs.cx_rules.specs.Abridged.{abridged_link};
 ghost use Rattle.cx_node.specs.cx_rules.specs.Acceptor.{AwaitsBanner, AwaitsHello, on_banner, on_hello};
 ghost use Rattle.cx_node.specs.cx_rules.specs.Rows.{new_link};
-ghost use Rattle.cx_turns.specs.Greetings.{opening};
-ghost use Rattle.cx_turns.specs.Making.{row_due};
+ghost use Rattle.cx_node.specs.steps.Greetings.{opening};
+ghost use Rattle.cx_node.specs.steps.Making.{row_due};
 ghost use Rattle.cx_verifying.specs.Rows.{Makes, arrived};
 
 use crate::links::{Link, Stage};
 use cx_base::{Blob, Items};
 use cx_control::Hello;
-use cx_holdings::Asker;
+use cx_holdings::MonClient;
 use cx_journal::{BytesFault, Reason};
 use cx_link::PlainLink;
-use cx_node::{Row, refuses};
-use cx_turns::{Moment, NoRow, NodeRow, goes_on, send_banner, send_hello};
+use cx_node::{Moment, NoRow, NodeRow, Row, goes_on_unchanged, refuses, send_banner, send_hello};
 use std::alloc::{AllocError, Global};
 
 /// The row of a link that opens: the banner is sent, or the link is shut where as many live as there are places.
 pub fn greeting(
     alloc: Global,
-    asker: &Asker,
+    mon_client: &MonClient,
     at: &Moment<'_>,
     full: bool,
 ) -> Result<Row<Link>, AllocError>
-    ensures { IfOk result (λ row. as_row asker.now row ≡ row_due abridged_link (opening full (arrived asker.now at.now (new_link at.now.number AwaitsBanner)))) }
+    ensures { IfOk result (λ row. as_row mon_client.now row ≡ row_due abridged_link (opening full (arrived mon_client.now at.now (new_link at.now.number AwaitsBanner)))) }
 {
     let seals = Items::new(alloc);
     if full {
-        let me = asker.node_name(alloc)?;
+        let me = mon_client.node_name(alloc)?;
         return refuses(alloc, &me, at.number, Reason::LinksFull, seals);
     }
     let sent = send_banner(alloc)?;
@@ -42,28 +41,28 @@ pub fn greeting(
 // The peer's banner: HELLO is sent, with one's own type.
 pub(crate) fn on_banner(
     alloc: Global,
-    asker: &Asker,
+    mon_client: &MonClient,
     at: &Moment<'_>,
     link: PlainLink,
 ) -> Result<NodeRow<Link, ()>, NoRow>
-    ensures { Makes asker.now at.now (wired at.now.number link AwaitsBanner) (on_banner asker.now.name.kind) result }
+    ensures { Makes mon_client.now at.now (wired at.now.number link AwaitsBanner) (on_banner mon_client.now.name.kind) result }
 {
-    let name = asker.name();
+    let name = mon_client.name();
     let sent = send_hello(alloc, link, name.kind)??;
     let link = Link::new(at.number, Stage::AwaitsHello(sent.link));
-    Ok(goes_on(alloc, link, sent.bytes, Items::new(alloc)))
+    Ok(goes_on_unchanged(alloc, link, sent.bytes, Items::new(alloc)))
 }
 
 pub(crate) fn on_hello(
     alloc: Global,
-    asker: &Asker,
+    mon_client: &MonClient,
     at: &Moment<'_>,
     link: PlainLink,
     read: Result<Hello, BytesFault>,
 ) -> Result<NodeRow<Link, ()>, NoRow>
-    ensures { Makes asker.now at.now (wired at.now.number link AwaitsHello) (λ a. on_hello a read) result }
+    ensures { Makes mon_client.now at.now (wired at.now.number link AwaitsHello) (λ a. on_hello a read) result }
 {
     let _ = read?;
     let link = Link::new(at.number, Stage::AwaitsRequest(link));
-    Ok(goes_on(alloc, link, Blob::new(alloc), Items::new(alloc)))
+    Ok(goes_on_unchanged(alloc, link, Blob::new(alloc), Items::new(alloc)))
 }

@@ -1,4 +1,4 @@
-//! A daemon on a link of a guest until the peer has signed: what it does as the link opens and at each banner and frame that comes, and what it
+//! A daemon on an incoming link until the peer has signed: what it does as the link opens and at each banner and frame that comes, and what it
 //! holds of the link from then on.
 #![tactic(auto)]
 
@@ -17,12 +17,12 @@ pub use greetings::greeting;
 pub use links::{Link, Stage};
 pub use owners::SessionOwner;
 pub use served::Served;
-pub use turns::{GuestTurn, turned};
+pub use turns::{IncomingTurn, turned};
 
 // What crates above name through this one, and so needn't list.
-pub use cx_holdings::Asker;
+pub use cx_holdings::MonClient;
+pub use cx_node::{Came, Moment, NoRow, NodeRow, entered_before, handles, unless_refused};
 pub use cx_rules_session::daemon_forgetting_laws;
-pub use cx_turns::{Came, Moment, NoRow, NodeRow, entered_before, handles, unless_refused};
 
 // Each public type may be sent to another thread and shared with one.
 fn is_sendable<T: Send + Sync>() {}
@@ -32,5 +32,5 @@ fn all_are_sendable() {
     is_sendable::<Link>();
     is_sendable::<SessionOwner>();
     is_sendable::<Served>();
-    is_sendable::<GuestTurn>();
+    is_sendable::<IncomingTurn>();
 }

@@ -1,11 +1,10 @@
-//! The links of guests: a number, and a stage with all that is held of the link.
+//! Incoming links: a number, and a stage with all that is held of the link.
 
 use crate::owners::SessionOwner;
 use crate::served::Served;
 use cx_authorize::Awaiting;
 use cx_link::{BannerLink, PlainLink, SecureLink, Signing};
-use cx_node::Numbered;
-use cx_turns::Feeds;
+use cx_node::{Feeds, Numbered};
 use std::alloc::{AllocError, Global};
 use std::marker::Model;
 
@@ -25,7 +24,7 @@ pub enum Stage {
 impl Stage {
     ghost use Rattle.std.specs.Prelude.{ℕ, ◌≡◌, OnOk};
     ghost use Rattle.cx_verifying.specs.Stages.{link_held};
-    ghost use Rattle.cx_turns.specs.Stages.{with_more};
+    ghost use Rattle.cx_node.specs.steps.Stages.{with_more};
 
     // Puts bytes behind those that came on the link.
     fn feed(&mut self, alloc: Global, bytes: &[u8]) -> Result<(), AllocError>
@@ -43,7 +42,7 @@ impl Stage {
     }
 }
 
-/// A live link of a guest.
+/// A live incoming link.
 #[derive(Drop)]
 pub struct Link {
     pub number: u32,
@@ -95,9 +94,9 @@ impl Link {
 
 impl Model for Link {
     ghost use Rattle.cx_node.specs.cx_rules.specs.Links.{Link};
-    ghost use Rattle.cx_rules_session.specs.Guests.{GuestStage};
+    ghost use Rattle.cx_rules_session.specs.IncomingLinks.{IncomingStage};
 
-    ghost Value = { Link GuestStage };
+    ghost Value = { Link IncomingStage };
 
     ghost use Rattle.cx_verifying.specs.Stages.{link_held};
 
@@ -115,7 +114,7 @@ impl Numbered for Link {
 
 impl Feeds for Link {
     ghost use Rattle.cx_node.specs.cx_rules.specs.Abridged.{abridged_link};
-    ghost use Rattle.cx_turns.specs.Steps as steps;
+    ghost use Rattle.cx_node.specs.steps.Steps as steps;
 
     ghost IsFed = { steps.IsFed abridged_link };
 

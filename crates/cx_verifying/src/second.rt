@@ -8,11 +8,11 @@ ghost use Rattle.cx_rules_session.specs.cx_dice.specs.Draws.{connection_of};
 ghost use Rattle.cx_node.specs.Made.{going_on};
 ghost use Rattle.cx_node.specs.cx_rules.specs.Acceptor.{finished};
 ghost use Rattle.cx_rules_session.specs.Envelopes.{authorize_reply_content, session_sealed};
-ghost use Rattle.cx_rules_session.specs.Guests.{authority_of, authorized_frame, authorizes, done_sent, looked_entry, on_second};
+ghost use Rattle.cx_rules_session.specs.IncomingLinks.{authority_of, authorized_frame, authorizes, done_sent, looked_entry, on_second};
 ghost use Rattle.cx_rules_session.specs.Kinds.{entered_before};
 ghost use Rattle.cx_steps.specs.declared.seals.DrawMark.TheVariants as draw;
 ghost use Rattle.cx_steps.specs.declared.seals.SealEntry.TheVariants.{Drawn};
-ghost use Rattle.cx_turns.specs.Making.{keeping};
+ghost use Rattle.cx_node.specs.steps.Making.{keeping};
 ghost use Rattle.cx_verifying.specs.Rows.{Makes};
 ghost use Rattle.cx_verifying.specs.Stages.{awaiting_proof, awaiting_signature};
 
@@ -22,66 +22,65 @@ use crate::owners::SessionOwner;
 use cx_authorize::{Authorized, Awaiting, SecondPassed};
 use cx_base::{Duplicate, Items, Owner};
 use cx_control::AuthDone;
-use cx_holdings::Asker;
+use cx_holdings::MonClient;
 use cx_link::{Finished, PlainLink};
-use cx_node::control;
+use cx_node::{Moment, NoRow, NodeRow, control, goes_on_unchanged, unless_refused};
 use cx_steps::{DrawMark, SealEntry};
-use cx_turns::{Moment, NoRow, NodeRow, goes_on, unless_refused};
 use std::alloc::{AllocError, Global};
 
 // The authorizer of this payload is judged by the view as it is now; it has to answer the challenge.
 pub(crate) fn on_second(
     alloc: Global,
-    asker: &Asker,
+    mon_client: &MonClient,
     at: &Moment<'_>,
     link: PlainLink,
     awaiting: Awaiting,
     payload: &[u8],
 ) -> Result<NodeRow<Link, ()>, NoRow>
-    ensures { Makes asker.now at.now (awaiting_proof at.now.number link awaiting) (λ a. on_second a awaiting payload.now) result }
+    ensures { Makes mon_client.now at.now (awaiting_proof at.now.number link awaiting) (λ a. on_second a awaiting payload.now) result }
 {
-    let view = asker.view();
+    let view = mon_client.view();
     let secret = at.draw.connection_secret();
     let mut opened = Items::new(alloc);
     match awaiting.check(alloc, payload, &view, at.reading, &secret, &mut opened) {
-        Ok(passed) => authorized(alloc, asker, at, link, opened, passed),
-        Err(why) => turned_away(alloc, asker, at, opened, why),
+        Ok(passed) => authorized(alloc, mon_client, at, link, opened, passed),
+        Err(why) => turned_away(alloc, mon_client, at, opened, why),
     }
 }
 
 // One that passes is answered, behind what opened of it.
 fn authorized(
     alloc: Global,
-    asker: &Asker,
+    mon_client: &MonClient,
     at: &Moment<'_>,
     link: PlainLink,
     opened: Items<SealEntry>,
     passed: SecondPassed,
 ) -> Result<NodeRow<Link, ()>, NoRow>
     requires { length passed.bytes < 2 ^ 32 }
-    ensures { (awaited : Awaited) (shown : Shown) → IsAdmitted asker.now.view at.now.reading (connection_of at.now.draw.now.bytes) shown passed
-        → Makes asker.now at.now (awaiting_proof at.now.number link awaited)
+    ensures { (awaited : Awaited) (shown : Shown) → IsAdmitted mon_client.now.view at.now.reading (connection_of at.now.draw.now.bytes) shown passed
+        → Makes mon_client.now at.now (awaiting_proof at.now.number link awaited)
         (λ a. entered_before (looked_entry a) (authorizes a opened shown.ticket shown.authorize.nonce)) result }
 {
-    let made = authorizes(alloc, asker, at, link, passed);
-    looked(alloc, asker, at, opened, made)
+    let made = authorizes(alloc, mon_client, at, link, passed);
+    looked(alloc, mon_client, at, opened, made)
 }
 
 // The secret of the connection is drawn for the entity of the ticket, and sent behind that it was drawn.
 fn authorizes(
     alloc: Global,
-    asker: &Asker,
+    mon_client: &MonClient,
     at: &Moment<'_>,
     link: PlainLink,
     passed: SecondPassed,
 ) -> Result<NodeRow<Link, ()>, NoRow>
     requires { length passed.bytes < 2 ^ 32 }
-    ensures { (awaited : Awaited) (shown : Shown) → IsAdmitted asker.now.view at.now.reading (connection_of at.now.draw.now.bytes) shown passed
-        → Makes asker.now at.now (awaiting_proof at.now.number link awaited) (λ a. authorizes a [] shown.ticket shown.authorize.nonce) result }
+    ensures { (awaited : Awaited) (shown : Shown) → IsAdmitted mon_client.now.view at.now.reading (connection_of at.now.draw.now.bytes) shown passed
+        → Makes mon_client.now at.now (awaiting_proof at.now.number link awaited) (λ a. authorizes a [] shown.ticket shown.authorize.nonce) result }
 {
     let drawn = drawn_for(alloc, at, &passed.authorized)?;
-    let me = asker.node_name(alloc)?;
-    let made = finishes(alloc, asker, at, link, passed);
+    let me = mon_client.node_name(alloc)?;
+    let made = finishes(alloc, mon_client, at, link, passed);
     let row = unless_refused(alloc, &me, at.number, drawn, made)?;
     Ok(row)
 }
@@ -106,14 +105,14 @@ fn drawn_for(
 // AUTH_DONE and AUTH_SIGNATURE are sent; the link is secured.
 fn finishes(
     alloc: Global,
-    asker: &Asker,
+    mon_client: &MonClient,
     at: &Moment<'_>,
     link: PlainLink,
     passed: SecondPassed,
 ) -> Result<NodeRow<Link, ()>, NoRow>
     requires { length passed.bytes < 2 ^ 32 }
-    ensures { (awaited : Awaited) (shown : Shown) → IsAdmitted asker.now.view at.now.reading (connection_of at.now.draw.now.bytes) shown passed
-        → Makes asker.now at.now (awaiting_proof at.now.number link awaited)
+    ensures { (awaited : Awaited) (shown : Shown) → IsAdmitted mon_client.now.view at.now.reading (connection_of at.now.draw.now.bytes) shown passed
+        → Makes mon_client.now at.now (awaiting_proof at.now.number link awaited)
         (λ a. done_sent a [] (session_sealed shown.ticket.session (authorize_reply_content shown.authorize.nonce (connection_of a.draw)) ∷ []) (authority_of a shown.ticket)
         (finished a.link shown.ticket.session (connection_of a.draw) (authorized_frame shown.ticket shown.authorize.nonce (connection_of a.draw)))) result }
 {
@@ -149,5 +148,5 @@ fn awaits_signature(
     seals.push(alloc, sealed)?;
     seals.append(alloc, finished.seals)?;
     let link = Link::new(at.number, Stage::AwaitsSignature(finished.signing, owner));
-    Ok(goes_on(alloc, link, finished.bytes, seals))
+    Ok(goes_on_unchanged(alloc, link, finished.bytes, seals))
 }

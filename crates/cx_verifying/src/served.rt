@@ -15,9 +15,9 @@ pub struct Served {
 }
 
 impl Model for Served {
-    ghost use Rattle.cx_rules_session.specs.Guests as guests;
+    ghost use Rattle.cx_rules_session.specs.IncomingLinks as incoming_links;
 
-    ghost Value = { guests.Served };
+    ghost Value = { incoming_links.Served };
 
     ghost view = { λ s. record { number = s.number; epoch = s.epoch; cookie = s.cookie; lossy = s.lossy; caps = s.caps } };
 }

@@ -6,3 +6,4 @@ pub mod NameWords
 pub mod TextWords
 pub mod HexWords
 pub mod ListWords
+pub mod lines

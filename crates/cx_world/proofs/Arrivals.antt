@@ -2,14 +2,14 @@
 use Rattle.std.proofs.Common.{◌≡◌, ℕ, true, false, List, [], ◌∷◌, Option, Some, None, refl, sym, ap, ◌∙◌, subst}
 use Rattle.std.specs.Option.{option_map}
 use Rattle.cx_desk.specs.Handlers.{Handlers}
-use Rattle.cx_line_words.specs.declared.choices.Side.{Side}
-use Rattle.cx_line_words.specs.declared.choices.Side.TheVariants.{Connector, Acceptor}
-use Rattle.cx_run_links.specs.cx_run.specs.Deliveries.{arrives_from, delivers, delivers_on, delivers_piece, first_of, gone_arrives, stay, under_way}
-use Rattle.cx_run_links.specs.cx_run.specs.Schedules.{arrives_again, cuts, ever_sent, injects}
-use Rattle.cx_run_links.specs.cx_run.specs.Wires.{Wire, ended, gone_at, other, owes_gone, pieces_from, wire_of, with_pieces, with_wire}
-use Rattle.cx_run_links.specs.cx_run.specs.Worlds.{World as RunWorld}
-use Rattle.cx_run_links.specs.Ends.{arriving}
-use Rattle.cx_run_links.specs.Tables.{changed_in, taken_from, taken_on, with_changed}
+use Rattle.cx_words.specs.declared.choices.Side.{Side}
+use Rattle.cx_words.specs.declared.choices.Side.TheVariants.{Connector, Acceptor}
+use Rattle.cx_world_start.specs.cx_run.specs.Deliveries.{arrives_from, delivers, delivers_on, delivers_piece, first_of, gone_arrives, stay, under_way}
+use Rattle.cx_world_start.specs.cx_run.specs.Schedules.{arrives_again, cuts, ever_sent, injects}
+use Rattle.cx_world_start.specs.cx_run.specs.Wires.{Wire, ended, gone_at, other, owes_gone, pieces_from, wire_of, with_pieces, with_wire}
+use Rattle.cx_world_start.specs.cx_run.specs.Worlds.{World as RunWorld}
+use Rattle.cx_world_start.specs.links.Ends.{arriving}
+use Rattle.cx_world_start.specs.links.Tables.{changed_in, taken_from, taken_on, with_changed}
 use Rattle.cx_world.specs.Arriving.{arrives_there, delivers_gone, owed_on, tells_there}
 use Rattle.cx_world.specs.Carried.{Began, Carries}
 use Rattle.cx_world.specs.Ends.{arrives_end, end_seen}

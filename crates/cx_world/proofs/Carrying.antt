@@ -4,12 +4,12 @@ use Rattle.std.specs.Prelude.{if◌then◌else◌}
 use Rattle.std.proofs.lemmas.Option.{none-some, same_Some}
 use Rattle.cx_base.specs.declared.nodes.NodeName.{NodeName}
 use Rattle.cx_desk.specs.Handlers.{Handlers}
-use Rattle.cx_run_links.specs.cx_rules.specs.Inputs.{Opened}
-use Rattle.cx_run_links.specs.cx_run.specs.Deliveries.{far_side, tells}
-use Rattle.cx_run_links.specs.cx_run.specs.Wires.{Wire, ended, has_end, new_wire, wire_of, with_wire}
-use Rattle.cx_run_links.specs.cx_run.specs.Worlds.{World, node_of}
+use Rattle.cx_world_start.specs.cx_rules.specs.Inputs.{Opened}
+use Rattle.cx_world_start.specs.cx_run.specs.Deliveries.{far_side, tells}
+use Rattle.cx_world_start.specs.cx_run.specs.Wires.{Wire, ended, has_end, new_wire, wire_of, with_wire}
+use Rattle.cx_world_start.specs.cx_run.specs.Worlds.{World, node_of}
 use Rattle.cx_steps.specs.declared.events.Peer.{Peer}
-use Rattle.cx_run_links.specs.Tables.{changed_in, with_changed}
+use Rattle.cx_world_start.specs.links.Tables.{changed_in, with_changed}
 use Rattle.cx_world.proofs.Changing.{wired}
 use Rattle.cx_world.specs.Carried.{Began, Carries, Makes}
 use Rattle.cx_world.specs.Ends.{end_seen, tells_end}

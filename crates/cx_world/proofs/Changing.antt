@@ -1,9 +1,9 @@
 -- A world whose links, or whose failing save or line, are changed.
 use Rattle.std.proofs.Common.{◌≡◌, ℕ, List, Option, refl}
 use Rattle.cx_desk.specs.Handlers.{Handlers}
-use Rattle.cx_line_words.specs.declared.choices.LeftState.{LeftState}
-use Rattle.cx_run_links.specs.cx_run.specs.Wires.{Wire}
-use Rattle.cx_run_links.specs.cx_run.specs.Worlds.{World}
+use Rattle.cx_words.specs.declared.choices.LeftState.{LeftState}
+use Rattle.cx_world_start.specs.cx_run.specs.Wires.{Wire}
+use Rattle.cx_world_start.specs.cx_run.specs.Worlds.{World}
 use Rattle.cx_world.specs.Carried.{Began, Carries}
 use Rattle.cx_world.specs.declared.world.World.{World as Held}
 

@@ -6,16 +6,16 @@ use Rattle.std.proofs.lemmas.List.{map-append}
 use Rattle.cx_desk.specs.Handlers.{Handlers}
 use Rattle.cx_journal.specs.declared.entries.Entry.{Entry}
 use Rattle.cx_base.specs.declared.nodes.NodeName.{NodeName}
-use Rattle.cx_run_nodes.proofs.Keyed.{key_found, same_node_is}
-use Rattle.cx_run_nodes.specs.Held.{IsGiven, is_posted}
-use Rattle.cx_run_nodes.specs.declared.made.Made.{Made}
-use Rattle.cx_run_nodes.specs.declared.nodes.Nodes.{Nodes as HeldNodes}
+use Rattle.cx_world.proofs.actors.Keyed.{key_found, same_node_is}
+use Rattle.cx_world.specs.actors.Held.{IsGiven, is_posted}
+use Rattle.cx_world.specs.declared.made.Made.{Made}
+use Rattle.cx_world.specs.declared.nodes.Nodes.{Nodes as HeldNodes}
 use Rattle.cx_premises.specs.Ledgers.{StandsFor}
-use Rattle.cx_run_links.specs.cx_rules.specs.Inputs.{Input}
-use Rattle.cx_run_links.specs.cx_run.specs.Deliveries.{Given, given, gives}
-use Rattle.cx_run_links.specs.cx_run.specs.Happenings.{Entered, Happening, Nodes, Stepped, entered_by, journal_from, logged_by, nodes_behind, seals_from, steps}
-use Rattle.cx_run_links.specs.cx_run.specs.Wires.{same_node}
-use Rattle.cx_run_links.specs.cx_run.specs.Worlds.{Post, World, happened, happening, post_of}
+use Rattle.cx_world_start.specs.cx_rules.specs.Inputs.{Input}
+use Rattle.cx_world_start.specs.cx_run.specs.Deliveries.{Given, given, gives}
+use Rattle.cx_world_start.specs.cx_run.specs.Happenings.{Entered, Happening, Nodes, Stepped, entered_by, journal_from, logged_by, nodes_behind, seals_from, steps}
+use Rattle.cx_world_start.specs.cx_run.specs.Wires.{same_node}
+use Rattle.cx_world_start.specs.cx_run.specs.Worlds.{Post, World, happened, happening, post_of}
 use Rattle.cx_steps.specs.Nothing.{nothing}
 use Rattle.cx_steps.specs.declared.effects.Effects.{Effects}
 use Rattle.cx_steps.specs.declared.seals.Logged.{Logged}

@@ -3,11 +3,11 @@ use Rattle.std.proofs.Common.{◌≡◌, ℕ, ◌+◌, ◌<◌, ◌≤◌, List,
 use Rattle.std.proofs.lemmas.List.{take_all, take_more}
 use Rattle.cx_desk.specs.Handlers.{Handlers}
 use Rattle.cx_lines.specs.declared.lines.Numbered.{Numbered}
-use Rattle.cx_run_links.specs.cx_run.specs.Opening.{Setup, opening_world}
-use Rattle.cx_run_links.specs.cx_run.specs.Runs.{setup_of}
-use Rattle.cx_run_links.specs.cx_run.specs.Schedules.{after_line, after_lines}
-use Rattle.cx_run_links.specs.cx_run.specs.Wires.{Wire}
-use Rattle.cx_run_links.specs.cx_run.specs.Worlds.{World}
+use Rattle.cx_world_start.specs.cx_run.specs.Opening.{Setup, opening_world}
+use Rattle.cx_world_start.specs.cx_run.specs.Runs.{setup_of}
+use Rattle.cx_world_start.specs.cx_run.specs.Schedules.{after_line, after_lines}
+use Rattle.cx_world_start.specs.cx_run.specs.Wires.{Wire}
+use Rattle.cx_world_start.specs.cx_run.specs.Worlds.{World}
 use Rattle.cx_world.specs.Beginning.{began}
 use Rattle.cx_world.specs.Carried.{Began, Carries, MakesAlone}
 use Rattle.cx_world.specs.Heads.{with_handlers}

@@ -1,3 +1,4 @@
+pub mod actors
 pub mod Arrivals
 pub mod Carrying
 pub mod Changing
@@ -10,3 +11,4 @@ pub mod Rounds
 pub mod Started
 pub mod Turns
 pub mod Vanishing
+pub mod replay

@@ -5,27 +5,27 @@ use Rattle.cx_world.specs.Events.{opens_to}
 use Rattle.cx_base.specs.Names.{Name}
 use Rattle.cx_base.specs.declared.nodes.NodeName.{NodeName}
 use Rattle.cx_base.specs.declared.nodes.NodeName.TheVariants as node
-use Rattle.cx_line_words.specs.declared.choices.LeftState.{LeftState}
+use Rattle.cx_words.specs.declared.choices.LeftState.{LeftState}
 use Rattle.std.specs.Prelude.{if◌then◌else◌}
 use Rattle.cx_desk.specs.Handlers.{Handlers}
-use Rattle.cx_run_links.specs.cx_rules.specs.Acceptor as acceptor
-use Rattle.cx_run_links.specs.cx_rules_session.specs.ClientRule.{ClientStage, WholeClientNode, loses}
-use Rattle.cx_run_links.specs.cx_rules.specs.Connector.{Stage}
-use Rattle.cx_run_links.specs.cx_rules.specs.Inputs.{Input, Gone, Opened}
-use Rattle.cx_run_links.specs.cx_rules.specs.Links.{Link, link_of}
-use Rattle.cx_run_links.specs.cx_rules.specs.MonitorRule.{monitor_rule}
-use Rattle.cx_run_links.specs.cx_rules.specs.Rows.{Outcome, forgotten, idles}
-use Rattle.cx_run_links.specs.cx_rules_session.specs.Asks.{Finished, Asking}
-use Rattle.cx_run_links.specs.cx_rules_session.specs.DaemonRule.{AsAcceptor, AsConnector, DaemonNode, DaemonStage, book_after, book_reply, gone, gone_by_kind, guest_gone, lossy_gone}
-use Rattle.cx_run_links.specs.cx_rules_session.specs.Guests.{GuestStage}
+use Rattle.cx_world_start.specs.cx_rules.specs.Acceptor as acceptor
+use Rattle.cx_world_start.specs.cx_rules_session.specs.ClientRule.{ClientStage, WholeClientNode, loses}
+use Rattle.cx_world_start.specs.cx_rules.specs.Connector.{Stage}
+use Rattle.cx_world_start.specs.cx_rules.specs.Inputs.{Input, Gone, Opened}
+use Rattle.cx_world_start.specs.cx_rules.specs.Links.{Link, link_of}
+use Rattle.cx_world_start.specs.cx_rules.specs.MonitorRule.{monitor_rule}
+use Rattle.cx_world_start.specs.cx_rules.specs.Rows.{Outcome, forgotten, idles}
+use Rattle.cx_world_start.specs.cx_rules_session.specs.Asks.{Finished, Asking}
+use Rattle.cx_world_start.specs.cx_rules_session.specs.DaemonRule.{AsAcceptor, AsConnector, DaemonNode, DaemonStage, book_after, book_reply, gone, gone_by_kind, incoming_gone, lossy_gone}
+use Rattle.cx_world_start.specs.cx_rules_session.specs.IncomingLinks.{IncomingStage}
 use Rattle.cx_session.specs.declared.call.BookCall.TheVariants.{End}
 use Rattle.cx_session.specs.declared.call.BookReply.{BookReply}
 use Rattle.cx_session.specs.declared.call.BookReply.TheVariants as reply
-use Rattle.cx_run_links.specs.cx_run.proofs.Always.{Always, always-book}
-use Rattle.cx_run_links.specs.cx_run.specs.Deliveries.{given, gives, open_all, opens, tells}
-use Rattle.cx_run_links.specs.cx_run.specs.Happenings.{EntityNode, OfClient, OfDaemon, Happening, Nodes, entity_of, entity_rule, entity_steps, monitor_steps, steps, steps_of}
-use Rattle.cx_run_links.specs.cx_run.specs.Wires.{Wire, gone_at, new_wire, sent_from, side_of, wire_of, with_wire}
-use Rattle.cx_run_links.specs.cx_run.specs.Worlds.{Post, World, carried, happening, node_of, opened_wires, post_of, sends_all, sends_piece, shuts_all, shuts_link}
+use Rattle.cx_world_start.specs.cx_run.proofs.Always.{Always, always-book}
+use Rattle.cx_world_start.specs.cx_run.specs.Deliveries.{given, gives, open_all, opens, tells}
+use Rattle.cx_world_start.specs.cx_run.specs.Happenings.{EntityNode, OfClient, OfDaemon, Happening, Nodes, entity_of, entity_rule, entity_steps, monitor_steps, steps, steps_of}
+use Rattle.cx_world_start.specs.cx_run.specs.Wires.{Wire, gone_at, new_wire, sent_from, side_of, wire_of, with_wire}
+use Rattle.cx_world_start.specs.cx_run.specs.Worlds.{Post, World, carried, happening, node_of, opened_wires, post_of, sends_all, sends_piece, shuts_all, shuts_link}
 use Rattle.cx_steps.specs.declared.effects.Effects.{Effects}
 use Rattle.cx_steps.specs.declared.effects.Piece.{Piece}
 use Rattle.cx_steps.specs.declared.events.Peer.{Peer}
@@ -49,14 +49,14 @@ ended_quiet d number session reply.Fine = (refl, refl)
 ended_quiet d number session (reply.Refused why) = (refl, refl)
 ended_quiet d number session reply.OutOfMemory = (refl, refl)
 
-guest_quiet : (d : DaemonNode) (number : ℕ) (stage : GuestStage) → Always (λ (o : Outcome DaemonNode). IsQuiet o.out) (guest_gone d number stage)
-guest_quiet d number acceptor.AwaitsBanner = (refl, refl)
-guest_quiet d number acceptor.AwaitsHello = (refl, refl)
-guest_quiet d number acceptor.AwaitsRequest = (refl, refl)
-guest_quiet d number (acceptor.AwaitsProof awaited) = (refl, refl)
-guest_quiet d number (acceptor.AwaitsSignature s owner) = (refl, refl)
-guest_quiet d number (acceptor.AwaitsIdent s owner) = (refl, refl)
-guest_quiet d number (acceptor.Open s served) = by_test served.lossy
+incoming_quiet : (d : DaemonNode) (number : ℕ) (stage : IncomingStage) → Always (λ (o : Outcome DaemonNode). IsQuiet o.out) (incoming_gone d number stage)
+incoming_quiet d number acceptor.AwaitsBanner = (refl, refl)
+incoming_quiet d number acceptor.AwaitsHello = (refl, refl)
+incoming_quiet d number acceptor.AwaitsRequest = (refl, refl)
+incoming_quiet d number (acceptor.AwaitsProof awaited) = (refl, refl)
+incoming_quiet d number (acceptor.AwaitsSignature s owner) = (refl, refl)
+incoming_quiet d number (acceptor.AwaitsIdent s owner) = (refl, refl)
+incoming_quiet d number (acceptor.Open s served) = by_test served.lossy
   where
     by_test : (lossy : Bool)
         → Always (λ (o : Outcome DaemonNode). IsQuiet o.out) (if lossy then Asking (End served.number) (lossy_gone d number served.number) else Finished (idles (forgotten d number)))
@@ -68,7 +68,7 @@ gone_quiet d None = (refl, refl)
 gone_quiet d (Some link) = by_kind link.stage
   where
     by_kind : (stage : DaemonStage) → Always (λ (o : Outcome DaemonNode). IsQuiet o.out) (gone_by_kind d link.number stage)
-    by_kind (AsAcceptor stage) = guest_quiet d link.number stage
+    by_kind (AsAcceptor stage) = incoming_quiet d link.number stage
     by_kind (AsConnector stage) = (refl, refl)
 
 rule_quiet : (handlers : Handlers) (entity : EntityNode) (number reading : ℕ) (draw : List ℕ) → IsQuiet (entity_rule handlers entity (Gone number) reading draw).out

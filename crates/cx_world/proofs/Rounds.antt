@@ -3,13 +3,13 @@ use Rattle.std.proofs.Common.{◌≡◌, ℕ, ◌+◌, ◌<◌, ◌≤◌, ◌==
 use Rattle.std.specs.Prelude.{◌-◌, not, replicate, IfSome}
 use Rattle.std.proofs.lemmas.Bool.Decides.{nat_tests}
 use Rattle.cx_desk.specs.Handlers.{Handlers}
-use Rattle.cx_line_words.specs.declared.choices.Side.{Side}
-use Rattle.cx_line_words.specs.declared.choices.Side.TheVariants.{Connector, Acceptor}
-use Rattle.cx_run_links.specs.cx_run.specs.Deliveries.{delivers, delivers_on, delivers_piece, drains, drains_side, gone_arrives, round, rounds, settles, under_way}
-use Rattle.cx_run_links.specs.cx_run.specs.Wires.{Wire, owes_gone, wire_of}
-use Rattle.cx_run_links.specs.cx_run.specs.Worlds.{World as RunWorld}
-use Rattle.cx_run_links.specs.Calm.{AreCalm, IsCalm, IsCalmAt}
-use Rattle.cx_run_links.specs.Tables.{AreNumbered}
+use Rattle.cx_words.specs.declared.choices.Side.{Side}
+use Rattle.cx_words.specs.declared.choices.Side.TheVariants.{Connector, Acceptor}
+use Rattle.cx_world_start.specs.cx_run.specs.Deliveries.{delivers, delivers_on, delivers_piece, drains, drains_side, gone_arrives, round, rounds, settles, under_way}
+use Rattle.cx_world_start.specs.cx_run.specs.Wires.{Wire, owes_gone, wire_of}
+use Rattle.cx_world_start.specs.cx_run.specs.Worlds.{World as RunWorld}
+use Rattle.cx_world_start.specs.links.Calm.{AreCalm, IsCalm, IsCalmAt}
+use Rattle.cx_world_start.specs.links.Tables.{AreNumbered}
 use Rattle.cx_world.specs.Carried.{Began, Carries, Makes}
 use Rattle.cx_world.specs.Settling.{delivers_many, drains_both, drains_links}
 use Rattle.cx_world.specs.declared.world.World.{World as Held}

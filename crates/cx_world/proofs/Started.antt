@@ -9,15 +9,15 @@ use Rattle.cx_journal.specs.declared.premises.Broken.{Broken}
 use Rattle.cx_lines.specs.Knowing.{known_of}
 use Rattle.cx_lines.specs.Lines.{is_numbered_in_range}
 use Rattle.cx_lines.specs.declared.lines.Numbered.{Numbered}
-use Rattle.cx_run_nodes.specs.Held.{StandFor}
+use Rattle.cx_world.specs.actors.Held.{StandFor}
 use Rattle.cx_premises.specs.Ledgers.{StandsFor}
-use Rattle.cx_run_links.specs.cx_run.specs.Happenings.{Entered, journal_from}
-use Rattle.cx_run_links.specs.cx_run.specs.Opening.{Setup, leaks_entered, nodes_of, opening_world, posts_of}
-use Rattle.cx_run_links.specs.cx_run.specs.Runs.{IsFoundOf, run_journal, setup_of, trace}
-use Rattle.cx_run_links.specs.cx_run.specs.Schedules.{after_line, after_lines}
-use Rattle.cx_run_links.specs.cx_run.specs.Sending.{is_numbered_written}
-use Rattle.cx_run_links.specs.cx_run.specs.Worlds.{World}
-use Rattle.cx_run_links.specs.cx_run.proofs.Written.{line-written}
+use Rattle.cx_world_start.specs.cx_run.specs.Happenings.{Entered, journal_from}
+use Rattle.cx_world_start.specs.cx_run.specs.Opening.{Setup, leaks_entered, nodes_of, opening_world, posts_of}
+use Rattle.cx_world_start.specs.cx_run.specs.Runs.{IsFoundOf, run_journal, setup_of, trace}
+use Rattle.cx_world_start.specs.cx_run.specs.Schedules.{after_line, after_lines}
+use Rattle.cx_world_start.specs.cx_run.specs.Sending.{is_numbered_written}
+use Rattle.cx_world_start.specs.cx_run.specs.Worlds.{World}
+use Rattle.cx_world_start.specs.cx_run.proofs.Written.{line-written}
 use Rattle.cx_schedule.proofs.Whole as schedule
 use Rattle.cx_schedule.specs.Files.{Adds, Said}
 use Rattle.cx_schedule.specs.Grammars.{line_words}

@@ -2,11 +2,11 @@
 use Rattle.std.proofs.Common.{◌≡◌, ℕ, ◌<◌, ◌≤◌, true, false, List, length, Option, refl, sym, ◌∙◌, subst, arith}
 use Rattle.cx_base.specs.declared.nodes.NodeName.{NodeName}
 use Rattle.cx_desk.specs.Handlers.{Handlers}
-use Rattle.cx_run_links.specs.cx_rules.specs.Inputs.{Turn}
-use Rattle.cx_run_links.specs.cx_run.specs.Deliveries.{Given, came_at, followed, gives, turns}
-use Rattle.cx_run_links.specs.cx_run.specs.Worlds.{World as RunWorld}
-use Rattle.cx_run_links.specs.cx_run.specs.Turning.{untaken_at}
-use Rattle.cx_run_links.specs.cx_run.proofs.Turning.{enough, takes, unrolls}
+use Rattle.cx_world_start.specs.cx_rules.specs.Inputs.{Turn}
+use Rattle.cx_world_start.specs.cx_run.specs.Deliveries.{Given, came_at, followed, gives, turns}
+use Rattle.cx_world_start.specs.cx_run.specs.Worlds.{World as RunWorld}
+use Rattle.cx_world_start.specs.cx_run.specs.Turning.{untaken_at}
+use Rattle.cx_world_start.specs.cx_run.proofs.Turning.{enough, takes, unrolls}
 use Rattle.cx_world.specs.Arriving.{turns_all}
 use Rattle.cx_world.specs.Carried.{Began, Carries}
 use Rattle.cx_world.specs.declared.world.World.{World as Held}

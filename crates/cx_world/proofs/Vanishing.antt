@@ -7,14 +7,14 @@ use Rattle.std.proofs.lemmas.List.Elements.{filter-append}
 use Rattle.std.proofs.lemmas.Option.{slice_get-get_or}
 use Rattle.cx_base.specs.declared.nodes.NodeName.{NodeName}
 use Rattle.cx_base.specs.declared.nodes.NodeName.TheVariants as node
-use Rattle.cx_run_nodes.proofs.Keyed.{replaced_elsewhere}
-use Rattle.cx_line_words.specs.declared.choices.Side.{Side}
-use Rattle.cx_run_links.specs.cx_rules.specs.Inputs.{Gone}
-use Rattle.cx_run_links.specs.cx_run.specs.Deliveries.{far_side, tells, tells_gone, vanish}
-use Rattle.cx_run_links.specs.cx_run.specs.Wires.{Wire, end_of, ended, has_end, new_wire, node_at, wire_of, with_wire}
-use Rattle.cx_run_links.specs.cx_run.specs.Worlds.{World}
-use Rattle.cx_run_links.proofs.Numbers.{found_here}
-use Rattle.cx_run_links.specs.Tables.{AreNumbered}
+use Rattle.cx_world.proofs.actors.Keyed.{replaced_elsewhere}
+use Rattle.cx_words.specs.declared.choices.Side.{Side}
+use Rattle.cx_world_start.specs.cx_rules.specs.Inputs.{Gone}
+use Rattle.cx_world_start.specs.cx_run.specs.Deliveries.{far_side, tells, tells_gone, vanish}
+use Rattle.cx_world_start.specs.cx_run.specs.Wires.{Wire, end_of, ended, has_end, new_wire, node_at, wire_of, with_wire}
+use Rattle.cx_world_start.specs.cx_run.specs.Worlds.{World}
+use Rattle.cx_world_start.proofs.links.Numbers.{found_here}
+use Rattle.cx_world_start.specs.links.Tables.{AreNumbered}
 use Rattle.cx_world.proofs.Quiet.{gone_moves_none}
 use Rattle.cx_world.specs.Events.{vanished_at}
 

@@ -1,10 +1,10 @@
 -- What arrives at the end of a link, as it was seen before.
 use Rattle.std.specs.Prelude.{ℕ, Bool, false, List, Option, Some, None, if◌then◌else◌}
 use Rattle.cx_base.specs.declared.nodes.NodeName.{NodeName}
-use Rattle.cx_line_words.specs.declared.choices.Side.{Side}
-use Rattle.cx_run_links.specs.cx_run.specs.Deliveries.{came_at, gone_arrives, turns}
-use Rattle.cx_run_links.specs.cx_run.specs.Wires.{Wire, owes_gone}
-use Rattle.cx_run_links.specs.cx_run.specs.Worlds.{World}
+use Rattle.cx_words.specs.declared.choices.Side.{Side}
+use Rattle.cx_world_start.specs.cx_run.specs.Deliveries.{came_at, gone_arrives, turns}
+use Rattle.cx_world_start.specs.cx_run.specs.Wires.{Wire, owes_gone}
+use Rattle.cx_world_start.specs.cx_run.specs.Worlds.{World}
 use Rattle.cx_world.specs.Ends.{arrives_end, tells_end}
 use Rattle.cx_world.specs.declared.ends.LinkEnd.{LinkEnd}
 

@@ -1,6 +1,6 @@
 -- Where the run of a schedule begins.
 use Rattle.std.specs.Prelude.{map}
-use Rattle.cx_run_links.specs.cx_run.specs.Opening.{Setup, leaked_of, leaks_entered, nodes_of, secrets_drawn}
+use Rattle.cx_world_start.specs.cx_run.specs.Opening.{Setup, leaked_of, leaks_entered, nodes_of, secrets_drawn}
 use Rattle.cx_world.specs.Carried.{Began}
 
 -- its nodes; the leaked clients stand first in the journal, and the entities' secrets in the log

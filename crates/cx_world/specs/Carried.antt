@@ -4,12 +4,12 @@ use Rattle.cx_base.specs.Names.{Name}
 use Rattle.cx_desk.specs.Handlers.{Handlers}
 use Rattle.cx_journal.specs.declared.entries.Entry.{Entry}
 use Rattle.cx_base.specs.declared.nodes.NodeName.{NodeName}
-use Rattle.cx_run_nodes.specs.Held.{StandFor}
-use Rattle.cx_run_nodes.specs.declared.made.Made.{Made}
+use Rattle.cx_world.specs.actors.Held.{StandFor}
+use Rattle.cx_world.specs.declared.made.Made.{Made}
 use Rattle.cx_premises.specs.Ledgers.{StandsFor}
-use Rattle.cx_run_links.specs.cx_run.specs.Deliveries.{Given}
-use Rattle.cx_run_links.specs.cx_run.specs.Happenings.{Happening, Nodes, journal_from, nodes_behind, seals_from}
-use Rattle.cx_run_links.specs.cx_run.specs.Worlds.{World}
+use Rattle.cx_world_start.specs.cx_run.specs.Deliveries.{Given}
+use Rattle.cx_world_start.specs.cx_run.specs.Happenings.{Happening, Nodes, journal_from, nodes_behind, seals_from}
+use Rattle.cx_world_start.specs.cx_run.specs.Worlds.{World}
 use Rattle.cx_steps.specs.declared.effects.Effects.{Effects}
 use Rattle.cx_steps.specs.declared.seals.Logged.{Logged}
 use Rattle.cx_steps.specs.declared.seals.SealEntry.{SealEntry}

@@ -1,2 +1,2 @@
 -- What may come to a node.
-pub use Rattle.cx_run_nodes.specs.Coming.{IsWritableInput}
+pub use Rattle.cx_world.specs.actors.Coming.{IsWritableInput}

@@ -1,11 +1,11 @@
 -- The end of a link, as it is told of what comes.
 use Rattle.std.specs.Prelude.{ℕ, List, if◌then◌else◌}
 use Rattle.cx_base.specs.declared.nodes.NodeName.{NodeName}
-use Rattle.cx_line_words.specs.declared.choices.Side.{Side}
-use Rattle.cx_run_links.specs.cx_rules.specs.Inputs.{Gone}
-use Rattle.cx_run_links.specs.cx_run.specs.Deliveries.{arrives, tells}
-use Rattle.cx_run_links.specs.cx_run.specs.Wires.{Wire, end_of, node_at}
-use Rattle.cx_run_links.specs.cx_run.specs.Worlds.{World}
+use Rattle.cx_words.specs.declared.choices.Side.{Side}
+use Rattle.cx_world_start.specs.cx_rules.specs.Inputs.{Gone}
+use Rattle.cx_world_start.specs.cx_run.specs.Deliveries.{arrives, tells}
+use Rattle.cx_world_start.specs.cx_run.specs.Wires.{Wire, end_of, node_at}
+use Rattle.cx_world_start.specs.cx_run.specs.Worlds.{World}
 use Rattle.cx_world.specs.declared.ends.LinkEnd.{LinkEnd}
 
 -- an end of a link as it is now

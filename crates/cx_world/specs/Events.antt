@@ -1,9 +1,9 @@
 -- Links that open and that vanish.
 use Rattle.std.specs.Prelude.{suc, length, filter, Option, Some, None, if◌then◌else◌}
 use Rattle.cx_base.specs.declared.nodes.NodeName.{NodeName}
-use Rattle.cx_run_links.specs.cx_run.specs.Deliveries.{far_side, opens, vanish}
-use Rattle.cx_run_links.specs.cx_run.specs.Wires.{Wire, ended, has_end, new_wire, with_wire}
-use Rattle.cx_run_links.specs.cx_run.specs.Worlds.{World, node_of}
+use Rattle.cx_world_start.specs.cx_run.specs.Deliveries.{far_side, opens, vanish}
+use Rattle.cx_world_start.specs.cx_run.specs.Wires.{Wire, ended, has_end, new_wire, with_wire}
+use Rattle.cx_world_start.specs.cx_run.specs.Worlds.{World, node_of}
 use Rattle.cx_steps.specs.declared.events.Peer.{Peer}
 use Rattle.cx_world.specs.Ends.{end_seen, tells_end}
 use Rattle.cx_world.specs.declared.ends.LinkEnd.{LinkEnd}

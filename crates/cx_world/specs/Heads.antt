@@ -1,2 +1,2 @@
 -- How the run of a schedule begins.
-pub use Rattle.cx_run_nodes.specs.Heads.{IsSchedule, with_handlers}
+pub use Rattle.cx_world.specs.actors.Heads.{IsSchedule, with_handlers}

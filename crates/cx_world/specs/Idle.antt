@@ -1,18 +1,18 @@
 -- Lines that do nothing: those on a link, an end or a piece that isn't there.
 use Rattle.std.specs.Prelude.{ℕ, ◌+◌, ◌==◌, ◌≡◌, ◌&&◌, not, Bool, true, false, List, [], ◌∷◌, length, Option, Some, None, if◌then◌else◌}
 use Rattle.cx_desk.specs.Handlers.{Handlers}
-use Rattle.cx_line_words.specs.declared.choices.Side.{Side}
-use Rattle.cx_line_words.specs.declared.choices.Side.TheVariants.{Connector, Acceptor}
+use Rattle.cx_words.specs.declared.choices.Side.{Side}
+use Rattle.cx_words.specs.declared.choices.Side.TheVariants.{Connector, Acceptor}
 use Rattle.cx_lines.specs.declared.lines.Line.{Line}
 use Rattle.cx_lines.specs.declared.lines.Line.TheVariants as line
 use Rattle.cx_lines.specs.declared.lines.Numbered.{Numbered}
 use Rattle.cx_lines.specs.declared.link_steps.LinkStep.{LinkStep}
 use Rattle.cx_lines.specs.declared.link_steps.LinkStep.TheVariants as link
-use Rattle.cx_run_links.specs.cx_run.specs.Opening.{opening_world}
-use Rattle.cx_run_links.specs.cx_run.specs.Runs.{setup_of}
-use Rattle.cx_run_links.specs.cx_run.specs.Schedules.{after_line, ever_sent}
-use Rattle.cx_run_links.specs.cx_run.specs.Wires.{Wire, end_of, other, owes_gone, pieces_from, wire_of}
-use Rattle.cx_run_links.specs.cx_run.specs.Worlds.{World}
+use Rattle.cx_world_start.specs.cx_run.specs.Opening.{opening_world}
+use Rattle.cx_world_start.specs.cx_run.specs.Runs.{setup_of}
+use Rattle.cx_world_start.specs.cx_run.specs.Schedules.{after_line, ever_sent}
+use Rattle.cx_world_start.specs.cx_run.specs.Wires.{Wire, end_of, other, owes_gone, pieces_from, wire_of}
+use Rattle.cx_world_start.specs.cx_run.specs.Worlds.{World}
 use Rattle.cx_world.specs.Carried.{Began, Carries}
 use Rattle.cx_world.specs.declared.world.World.{World as Held}
 

@@ -1,3 +1,4 @@
+pub mod actors
 pub mod Arriving
 pub mod Beginning
 pub mod Carried
@@ -8,3 +9,4 @@ pub mod Heads
 pub mod Idle
 pub mod Logs
 pub mod Settling
+pub mod replay

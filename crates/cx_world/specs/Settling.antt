@@ -1,9 +1,9 @@
 -- Deliveries in a row, counted.
 use Rattle.std.specs.Prelude.{ℕ, zero, suc, None}
-use Rattle.cx_line_words.specs.declared.choices.Side.{Side}
-use Rattle.cx_line_words.specs.declared.choices.Side.TheVariants.{Connector, Acceptor}
-use Rattle.cx_run_links.specs.cx_run.specs.Deliveries.{delivers, drains_side}
-use Rattle.cx_run_links.specs.cx_run.specs.Worlds.{World}
+use Rattle.cx_words.specs.declared.choices.Side.{Side}
+use Rattle.cx_words.specs.declared.choices.Side.TheVariants.{Connector, Acceptor}
+use Rattle.cx_world_start.specs.cx_run.specs.Deliveries.{delivers, drains_side}
+use Rattle.cx_world_start.specs.cx_run.specs.Worlds.{World}
 
 -- so many pieces from a side arrived
 abbrev pub delivers_many : ℕ → ℕ → Side → World → World

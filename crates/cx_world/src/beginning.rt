@@ -8,15 +8,15 @@ ghost use Rattle.cx_world.specs.Heads.{with_handlers};
 
 use crate::records::{Record, log_all};
 use crate::world::World;
+use crate::{Setup, opening_nodes};
 use cx_premises::Ledger;
-use cx_run_links::Wires;
-use cx_run_nodes::{Setup, opening_nodes};
+use cx_world_start::Wires;
 use std::alloc::{AllocError, Global};
 
 impl World {
     ghost use Rattle.std.specs.Prelude.{None, IfOk};
     ghost use Rattle.cx_desk.specs.Handlers.{Handlers};
-    ghost use Rattle.cx_run_links.specs.cx_run.specs.Opening.{opening_world};
+    ghost use Rattle.cx_world_start.specs.cx_run.specs.Opening.{opening_world};
     ghost use Rattle.cx_world.specs.Beginning.{began};
     ghost use Rattle.cx_world.specs.Carried.{Carries};
     ghost use Rattle.cx_world.specs.Heads.{with_handlers};

@@ -2,9 +2,9 @@
 
 ghost use Rattle.std.specs.Prelude.{ℕ, ◌≡◌, Option, OnOk};
 ghost use Rattle.cx_desk.specs.Held.{handlers_of};
-ghost use Rattle.cx_run_links.specs.cx_run.specs.Deliveries.{arrives, delivers};
-ghost use Rattle.cx_run_links.specs.cx_run.specs.Wires.{wire_of};
-ghost use Rattle.cx_run_links.specs.cx_run.specs.Worlds.{World as RunWorld};
+ghost use Rattle.cx_world_start.specs.cx_run.specs.Deliveries.{arrives, delivers};
+ghost use Rattle.cx_world_start.specs.cx_run.specs.Wires.{wire_of};
+ghost use Rattle.cx_world_start.specs.cx_run.specs.Worlds.{World as RunWorld};
 ghost use Rattle.cx_world.specs.Arriving.{arrives_there, delivers_gone, owed_on, tells_there, turns_all};
 ghost use Rattle.cx_world.specs.Carried.{Began, Carries, Makes};
 ghost use Rattle.cx_world.specs.Ends.{arrives_end};
@@ -13,9 +13,9 @@ use crate::ends::{LinkEnd, end_at};
 use crate::world::World;
 use cx_base::NodeName;
 use cx_desk::Desk;
-use cx_line_words::Side;
-use cx_run_links::{Wires, other};
 use cx_steps::Event;
+use cx_words::Side;
+use cx_world_start::{Wires, other};
 use std::alloc::{AllocError, Global};
 
 // Whether the other end of a link is still to be told that this side is gone.

@@ -2,12 +2,12 @@
 
 ghost use Rattle.std.specs.Prelude.{◌≡◌, IfOk};
 ghost use Rattle.std.specs.Option.{option_map};
-ghost use Rattle.cx_run_links.specs.cx_run.specs.Wires.{wire_of};
+ghost use Rattle.cx_world_start.specs.cx_run.specs.Wires.{wire_of};
 ghost use Rattle.cx_world.specs.Ends.{end_seen};
 
 use cx_base::{Duplicate, NodeName};
-use cx_line_words::Side;
-use cx_run_links::Wires;
+use cx_words::Side;
+use cx_world_start::Wires;
 use std::alloc::{AllocError, Global};
 
 /// An end of a link: the link's number, the end's node, and whether that still has it.

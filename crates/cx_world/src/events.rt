@@ -2,24 +2,24 @@
 
 ghost use Rattle.std.specs.Prelude.{ℕ, ◌≡◌, List, length, Option, IfOk, OnOk};
 ghost use Rattle.cx_desk.specs.Held.{handlers_of};
-ghost use Rattle.cx_run_links.specs.cx_rules.specs.Inputs.{input_of};
-ghost use Rattle.cx_run_links.specs.cx_run.specs.Deliveries.{comes, far_side, followed, open_all, restarts};
-ghost use Rattle.cx_run_links.specs.cx_run.specs.Wires.{wire_of};
-ghost use Rattle.cx_run_links.specs.cx_run.specs.Worlds.{World as RunWorld, opened_wires};
-ghost use Rattle.cx_run_links.specs.cx_run.specs.Deliveries.{Given};
+ghost use Rattle.cx_world_start.specs.cx_rules.specs.Inputs.{input_of};
+ghost use Rattle.cx_world_start.specs.cx_run.specs.Deliveries.{comes, far_side, followed, open_all, restarts};
+ghost use Rattle.cx_world_start.specs.cx_run.specs.Wires.{wire_of};
+ghost use Rattle.cx_world_start.specs.cx_run.specs.Worlds.{World as RunWorld, opened_wires};
+ghost use Rattle.cx_world_start.specs.cx_run.specs.Deliveries.{Given};
 ghost use Rattle.cx_world.specs.Carried.{Began, Carries, IsGivenTo, Makes};
 ghost use Rattle.cx_world.specs.Coming.{IsWritableInput};
 ghost use Rattle.cx_world.specs.Ends.{tells_end};
 ghost use Rattle.cx_world.specs.Events.{far_seen, opens_to, vanished, vanished_at};
 
+use crate::Made;
 use crate::ends::{LinkEnd, end_at};
 use crate::world::World;
 use cx_base::{Duplicate, NodeName};
 use cx_desk::Desk;
-use cx_line_words::Side;
-use cx_run_links::{Wire, Wires, peer_node, same_node};
-use cx_run_nodes::Made;
 use cx_steps::{Event, Peer};
+use cx_words::Side;
+use cx_world_start::{Wire, Wires, peer_node, same_node};
 use std::alloc::{AllocError, Global};
 
 // The other end of the link of a number, where it is one of the node.

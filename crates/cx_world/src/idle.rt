@@ -1,14 +1,14 @@
 //! Lines that do nothing: those on a link, an end or a piece that isn't there.
 
 ghost use Rattle.std.specs.Prelude.{◌≡◌, ◌≤◌};
-ghost use Rattle.cx_run_links.specs.cx_run.specs.Schedules.{ever_sent};
-ghost use Rattle.cx_run_links.specs.cx_run.specs.Wires.{wire_of};
+ghost use Rattle.cx_world_start.specs.cx_run.specs.Schedules.{ever_sent};
+ghost use Rattle.cx_world_start.specs.cx_run.specs.Wires.{wire_of};
 ghost use Rattle.cx_world.specs.Idle.{idle_at, is_deaf, is_done, is_empty, is_idle, is_idle_step, is_over, is_unheard};
 
 use crate::world::World;
-use cx_line_words::Side;
 use cx_lines::{Line, LinkStep};
-use cx_run_links::{Wires, other};
+use cx_words::Side;
+use cx_world_start::{Wires, other};
 
 impl World {
     /// One where the line does nothing now, else none.

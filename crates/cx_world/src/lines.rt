@@ -2,13 +2,13 @@
 
 ghost use Rattle.std.specs.Prelude.{◌≡◌, ℕ, Option, IfOk, IsTrue, OnOk};
 ghost use Rattle.cx_desk.specs.Held.{handlers_of};
-ghost use Rattle.cx_run_links.specs.cx_rules.specs.Inputs.{Submit};
+ghost use Rattle.cx_world_start.specs.cx_rules.specs.Inputs.{Submit};
 ghost use Rattle.cx_base.specs.declared.nodes.NodeName.TheVariants as node;
 ghost use Rattle.cx_lines.specs.Lines.{is_in_range, is_numbered_in_range};
 ghost use Rattle.cx_lines.specs.declared.commands.LineCommand.TheVariants as command;
-ghost use Rattle.cx_run_links.specs.cx_run.specs.Schedules.{acts_on, after_line, services_sum, submits, submitted};
-ghost use Rattle.cx_run_links.specs.cx_run.specs.Sending.{is_command_written, is_line_written, is_numbered_written, is_written};
-ghost use Rattle.cx_run_links.specs.cx_run.specs.Worlds.{World as RunWorld};
+ghost use Rattle.cx_world_start.specs.cx_run.specs.Schedules.{acts_on, after_line, services_sum, submits, submitted};
+ghost use Rattle.cx_world_start.specs.cx_run.specs.Sending.{is_command_written, is_line_written, is_numbered_written, is_written};
+ghost use Rattle.cx_world_start.specs.cx_run.specs.Worlds.{World as RunWorld};
 ghost use Rattle.cx_steps.specs.declared.events.Command.TheVariants as told;
 ghost use Rattle.cx_world.specs.Carried.{Began, Carries, Makes, MakesAlone};
 

@@ -3,18 +3,18 @@
 ghost use Rattle.std.specs.Prelude.{◌≡◌, ℕ, Option, OnOk};
 ghost use Rattle.cx_desk.specs.Handlers.{Handlers};
 ghost use Rattle.cx_desk.specs.Held.{handlers_of};
-ghost use Rattle.cx_run_links.specs.cx_run.specs.Schedules.{arrives_again, cuts, ever_sent, injects, loses, on_link};
-ghost use Rattle.cx_run_links.specs.cx_run.specs.Wires.{wire_of};
-ghost use Rattle.cx_run_links.specs.cx_run.specs.Worlds.{World as RunWorld};
+ghost use Rattle.cx_world_start.specs.cx_run.specs.Schedules.{arrives_again, cuts, ever_sent, injects, loses, on_link};
+ghost use Rattle.cx_world_start.specs.cx_run.specs.Wires.{wire_of};
+ghost use Rattle.cx_world_start.specs.cx_run.specs.Worlds.{World as RunWorld};
 ghost use Rattle.cx_world.specs.Carried.{Began, Carries, Makes};
 
 use crate::ends::end_at;
 use crate::world::World;
 use cx_base::Duplicate;
 use cx_desk::Desk;
-use cx_line_words::Side;
 use cx_lines::LinkStep;
-use cx_run_links::other;
+use cx_words::Side;
+use cx_world_start::other;
 use std::alloc::{AllocError, Global};
 
 impl World {

@@ -6,18 +6,18 @@ ghost use Rattle.cx_desk.specs.Held.{handlers_of};
 ghost use Rattle.cx_lines.specs.Lines.{is_in_range};
 ghost use Rattle.cx_lines.specs.declared.lines.Line.TheVariants as line;
 ghost use Rattle.cx_lines.specs.declared.node_steps.NodeStep.TheVariants as step;
-ghost use Rattle.cx_run_links.specs.cx_rules.specs.Inputs.{Tick};
-ghost use Rattle.cx_run_links.specs.cx_run.specs.Deliveries.{comes, settles};
-ghost use Rattle.cx_run_links.specs.cx_run.specs.Schedules.{all_read, on_node, one_reads};
-ghost use Rattle.cx_run_links.specs.cx_run.specs.Worlds.{World as RunWorld};
+ghost use Rattle.cx_world_start.specs.cx_rules.specs.Inputs.{Tick};
+ghost use Rattle.cx_world_start.specs.cx_run.specs.Deliveries.{comes, settles};
+ghost use Rattle.cx_world_start.specs.cx_run.specs.Schedules.{all_read, on_node, one_reads};
+ghost use Rattle.cx_world_start.specs.cx_run.specs.Worlds.{World as RunWorld};
 ghost use Rattle.cx_world.specs.Carried.{Makes, MakesAlone};
 
 use crate::world::World;
 use cx_base::{Duplicate, EntityName, NodeName, Reading};
 use cx_desk::Desk;
-use cx_line_words::LeftState;
 use cx_lines::NodeStep;
 use cx_steps::{Command as Told, Event};
+use cx_words::LeftState;
 use std::alloc::{AllocError, Global};
 
 impl World {

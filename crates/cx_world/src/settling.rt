@@ -2,14 +2,14 @@
 
 ghost use Rattle.std.specs.Prelude.{ℕ, ◌≡◌, Option, OnOk};
 ghost use Rattle.cx_desk.specs.Held.{handlers_of};
-ghost use Rattle.cx_run_links.specs.cx_run.specs.Deliveries.{drains_side, round, settles};
-ghost use Rattle.cx_run_links.specs.cx_run.specs.Worlds.{World as RunWorld};
+ghost use Rattle.cx_world_start.specs.cx_run.specs.Deliveries.{drains_side, round, settles};
+ghost use Rattle.cx_world_start.specs.cx_run.specs.Worlds.{World as RunWorld};
 ghost use Rattle.cx_world.specs.Carried.{Began, Carries, Makes, MakesAlone};
 ghost use Rattle.cx_world.specs.Settling.{drains_both};
 
 use crate::world::World;
 use cx_desk::Desk;
-use cx_line_words::Side;
+use cx_words::Side;
 use std::alloc::{AllocError, Global};
 
 /// At most so many rounds of a settling.

@@ -3,12 +3,12 @@
 ghost use Rattle.std.specs.Prelude.{◌≡◌, ◌||◌};
 
 use crate::records::{Record, enter, log};
+use crate::{Made, Nodes};
 use cx_base::{Items, NodeName};
 use cx_desk::Desk;
-use cx_line_words::LeftState;
-use cx_run_links::Wires;
-use cx_run_nodes::{Made, Nodes};
 use cx_steps::{Effects, Event};
+use cx_words::LeftState;
+use cx_world_start::Wires;
 use std::alloc::{AllocError, Global};
 use std::mem;
 
@@ -34,9 +34,9 @@ impl World {
     ghost use Rattle.std.specs.Prelude.{ℕ, ◌≡◌, Option, IfOk, OnOk};
     ghost use Rattle.cx_desk.specs.Handlers.{Handlers};
     ghost use Rattle.cx_desk.specs.Held.{handlers_of};
-    ghost use Rattle.cx_run_links.specs.cx_rules.specs.Inputs.{input_of};
-    ghost use Rattle.cx_run_links.specs.cx_run.specs.Deliveries.{gives, tells};
-    ghost use Rattle.cx_run_links.specs.cx_run.specs.Worlds.{World as RunWorld, carried};
+    ghost use Rattle.cx_world_start.specs.cx_rules.specs.Inputs.{input_of};
+    ghost use Rattle.cx_world_start.specs.cx_run.specs.Deliveries.{gives, tells};
+    ghost use Rattle.cx_world_start.specs.cx_run.specs.Worlds.{World as RunWorld, carried};
     ghost use Rattle.cx_world.specs.Coming.{IsWritableInput};
     ghost use Rattle.cx_world.specs.Carried.{Began, Carries, IsGivenTo, IsNoted, Makes, without_told};
 

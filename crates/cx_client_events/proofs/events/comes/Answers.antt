@@ -1,6 +1,6 @@
-use Rattle.cx_client_links.specs.cx_rules_session.specs.Forgets.{abridged_client_link}
-use Rattle.cx_client_links.specs.cx_rules_session.proofs.WholeClientForgets.{client-forgets-links}
-use Rattle.cx_turns.proofs.Steps.{comes_held, comes_step}
+use Rattle.cx_client_events.specs.cx_rules_session.specs.Forgets.{abridged_client_link}
+use Rattle.cx_client_events.specs.cx_rules_session.proofs.WholeClientForgets.{client-forgets-links}
+use Rattle.cx_node.proofs.steps.Steps.{comes_held, comes_step}
 use Rattle.cx_client_events.proofs.events.comes.Goals as goal
 
 pub returns-clause-step : goal.returns-clause-step

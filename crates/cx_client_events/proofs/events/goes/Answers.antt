@@ -1,7 +1,7 @@
 use Rattle.std.proofs.Common.{◌≡◌, ◌∙◌, ℕ, Option, Some, refl, sym, ap}
-use Rattle.cx_client_links.specs.cx_rules_session.specs.ClientRule.{ToDaemon, ToMonitor}
-use Rattle.cx_client_links.specs.cx_rules_session.specs.Kinds.{of_kind}
-use Rattle.cx_client_links.specs.Kinds.{ClientLink, link_held}
+use Rattle.cx_client_events.specs.cx_rules_session.specs.ClientRule.{ToDaemon, ToMonitor}
+use Rattle.cx_client_events.specs.cx_rules_session.specs.Kinds.{of_kind}
+use Rattle.cx_client_events.specs.linking.Kinds.{ClientLink, link_held}
 use Rattle.cx_client_events.proofs.Gone.{gone_daemon, gone_monitor}
 use Rattle.cx_client_events.proofs.Steps.{without_held}
 use Rattle.cx_client_events.proofs.events.goes.Goals as goal

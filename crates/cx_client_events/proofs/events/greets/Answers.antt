@@ -1,6 +1,6 @@
-use Rattle.cx_client_links.specs.cx_rules_session.specs.Forgets.{abridged_client_link}
-use Rattle.cx_client_links.specs.cx_rules_session.proofs.WholeClientForgets.{client-forgets-links}
-use Rattle.cx_turns.proofs.Steps.{opens_held, opens_step}
+use Rattle.cx_client_events.specs.cx_rules_session.specs.Forgets.{abridged_client_link}
+use Rattle.cx_client_events.specs.cx_rules_session.proofs.WholeClientForgets.{client-forgets-links}
+use Rattle.cx_node.proofs.steps.Steps.{opens_held, opens_step}
 use Rattle.cx_client_events.specs.Machine.{banner_sent}
 use Rattle.cx_client_events.proofs.events.greets.Goals as goal
 

@@ -1,7 +1,7 @@
 use Rattle.std.proofs.Common.{Some, ap, inr, map, refl, sym, ◌∙◌}
 use Rattle.cx_command_line.specs.Commands as asked
 use Rattle.cx_desk.specs.Held.{handlers_of}
-use Rattle.cx_node_help.specs.cx_line_help.specs.declared.scripts.NodeKind.TheVariants as kind
+use Rattle.cx_help.specs.declared.scripts.NodeKind.TheVariants as kind
 use Rattle.cx_top.specs.declared.commands.Subcommand.TheVariants as text
 use Rattle.cx_commands.proofs.NodeEnds.{client_ended, daemon_ended, monitor_ended}
 use Rattle.cx_commands.proofs.Words.{drill_ended, drill_usage, key_usage, node_usage, spelled_drill, spelled_monitor, text_usage}

@@ -1,7 +1,7 @@
 use Rattle.std.proofs.Common.{◌≡◌, Some, map, sym, ◌∙◌}
 use Rattle.cx_command_line.specs.Commands as asked
 use Rattle.cx_desk.specs.Held.{handlers_of}
-use Rattle.cx_node_help.specs.cx_line_help.specs.declared.scripts.NodeKind.TheVariants as kind
+use Rattle.cx_help.specs.declared.scripts.NodeKind.TheVariants as kind
 use Rattle.cx_commands.proofs.WrongWords.{misread_usage}
 use Rattle.cx_commands.proofs.Words.{misread_drill, misread_key, misread_node, misread_text}
 use Rattle.cx_commands.proofs.running.run.Goals as goal

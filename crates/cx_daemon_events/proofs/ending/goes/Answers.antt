@@ -2,21 +2,21 @@ use Rattle.std.proofs.Common.{◌≡◌, ◌∙◌, ℕ, Option, Some, refl, sym
 use Rattle.cx_verifying.specs.cx_rules_session.specs.DaemonRule.{AsAcceptor, AsConnector}
 use Rattle.cx_verifying.specs.cx_rules_session.specs.Kinds.{of_kind}
 use Rattle.cx_daemon_events.specs.Kinds.{DaemonLink, link_held}
-use Rattle.cx_daemon_events.proofs.Leaving.{gone_guest, gone_own}
+use Rattle.cx_daemon_events.proofs.Leaving.{gone_incoming, gone_own}
 use Rattle.cx_daemon_events.proofs.Steps.{without_held}
 use Rattle.cx_daemon_events.proofs.ending.goes.Goals as goal
 
-pub returns-in-Guest-clause-step : goal.returns-in-Guest-clause-step
-returns-in-Guest-clause-step c =
+pub returns-in-Incoming-clause-step : goal.returns-in-Incoming-clause-step
+returns-in-Incoming-clause-step c =
     let some : DaemonLink → Option DaemonLink = λ l. Some l in
     let number_of : DaemonLink → ℕ = λ l. l.number in
-    let is : c.in-Some.link ≡ of_kind AsAcceptor c.in-Guest.link = sym c.link.view_is ∙ ap link_held c.in-Guest.is in
-    gone_guest c.args.own.now c.args.number c.args.links.now.links c.give_up.new.self.links _ c.args.book.now.book c.guest_gone.new.book.book c.requires.held
-    (rw (c.give_up.ensures, c.in-Some.ensures.taken) refl) c.in-Guest.link c.guest_gone.result (sym c.in-Some.ensures.link ∙ ap some is)
-    (sym (ap number_of is) ∙ c.in-Some.ensures.number) (rw c.in-Guest.link-is at c.guest_gone.ensures.gone)
+    let is : c.in-Some.link ≡ of_kind AsAcceptor c.in-Incoming.link = sym c.link.view_is ∙ ap link_held c.in-Incoming.is in
+    gone_incoming c.args.own.now c.args.number c.args.links.now.links c.give_up.new.self.links _ c.args.book.now.book c.incoming_gone.new.book.book c.requires.held
+    (rw (c.give_up.ensures, c.in-Some.ensures.taken) refl) c.in-Incoming.link c.incoming_gone.result (sym c.in-Some.ensures.link ∙ ap some is)
+    (sym (ap number_of is) ∙ c.in-Some.ensures.number) (rw c.in-Incoming.link-is at c.incoming_gone.ensures.gone)
 
-pub returns-in-Guest-clause-held : goal.returns-in-Guest-clause-held
-returns-in-Guest-clause-held c =
+pub returns-in-Incoming-clause-held : goal.returns-in-Incoming-clause-held
+returns-in-Incoming-clause-held c =
     without_held c.args.number c.args.links.now.links c.give_up.new.self.links c.requires.held (rw (c.give_up.ensures, c.in-Some.ensures.taken) refl)
 
 pub returns-in-Own-clause-step : goal.returns-in-Own-clause-step

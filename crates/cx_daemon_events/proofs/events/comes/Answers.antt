@@ -1,6 +1,6 @@
 use Rattle.cx_verifying.specs.cx_rules_session.specs.Forgets.{abridged_daemon_link}
 use Rattle.cx_verifying.specs.cx_rules_session.proofs.DaemonForgets.{daemon-forgets-links}
-use Rattle.cx_turns.proofs.Steps.{comes_held, comes_step}
+use Rattle.cx_node.proofs.steps.Steps.{comes_held, comes_step}
 use Rattle.cx_daemon_events.proofs.events.comes.Goals as goal
 
 pub returns-clause-step : goal.returns-clause-step

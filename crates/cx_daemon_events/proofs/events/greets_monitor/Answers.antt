@@ -1,6 +1,6 @@
 use Rattle.cx_verifying.specs.cx_rules_session.specs.Forgets.{abridged_daemon_link}
 use Rattle.cx_verifying.specs.cx_rules_session.proofs.DaemonForgets.{daemon-forgets-links}
-use Rattle.cx_turns.proofs.Steps.{opens_held, opens_step}
+use Rattle.cx_node.proofs.steps.Steps.{opens_held, opens_step}
 use Rattle.cx_daemon_events.specs.Machine.{banner_sent}
 use Rattle.cx_daemon_events.proofs.events.greets_monitor.Goals as goal
 

@@ -2,7 +2,7 @@ use Rattle.std.proofs.Common.{refl}
 use Rattle.cx_drive.proofs.Running.{ran_step, stops}
 use Rattle.cx_drive.specs.Agendas.{agenda_of, with_due}
 use Rattle.cx_drive.specs.Stops.{scene}
-use Rattle.cx_rules.specs.Inputs.{input_of}
+use Rattle.cx_client.specs.cx_rules_session.specs.cx_rules.specs.Inputs.{input_of}
 use Rattle.cx_drive.proofs.driving.comes.Goals as goal
 
 pub returns-in-Ok : goal.returns-in-Ok

@@ -4,7 +4,7 @@ use Rattle.cx_drive.proofs.Running.{ran_step, stops}
 use Rattle.cx_drive.specs.Agendas.{agenda_of, noting, without_next}
 use Rattle.cx_drive.specs.Steps.{carried_dues}
 use Rattle.cx_drive.specs.Stops.{scene}
-use Rattle.cx_rules.specs.Inputs as input
+use Rattle.cx_client.specs.cx_rules_session.specs.cx_rules.specs.Inputs as input
 use Rattle.cx_drive.proofs.driving.turn.Goals as goal
 
 pub returns-in-Ok : goal.returns-in-Ok

@@ -3,7 +3,7 @@ use Rattle.cx_drive.proofs.Ahead.{none_next}
 use Rattle.cx_drive.proofs.Running.{breaks, done, on, ran_came}
 use Rattle.cx_drive.specs.Agendas.{after_event, agenda_of}
 use Rattle.cx_drive.specs.Stops.{scene}
-use Rattle.cx_links.specs.Events.{came}
+use Rattle.cx_outside.specs.linking.Events.{came}
 use Rattle.cx_drive.proofs.driving.wait.Goals as goal
 
 pub returns-then-flow-clause-ran : goal.returns-then-flow-clause-ran

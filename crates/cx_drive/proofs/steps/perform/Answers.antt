@@ -1,4 +1,4 @@
-use Rattle.cx_rules.specs.Inputs.{input_of}
+use Rattle.cx_client.specs.cx_rules_session.specs.cx_rules.specs.Inputs.{input_of}
 use Rattle.std.proofs.Common.{subst}
 use Rattle.cx_drive.proofs.Performing.{performed, stopped}
 use Rattle.cx_drive.specs.Steps.{regard_acts, step_links}

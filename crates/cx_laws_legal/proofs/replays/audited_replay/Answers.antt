@@ -1,7 +1,7 @@
 use Rattle.std.proofs.Common.{◌≡◌, true, false, ◌∙◌}
 use Rattle.std.specs.Prelude.{is_some}
 use Rattle.cx_desk.specs.Held.{handlers_of}
-use Rattle.cx_laws_legal.proofs.Audited.{found-some, text-legal}
+use Rattle.cx_laws_legal.proofs.legal.Audited.{found-some, text-legal}
 use Rattle.cx_laws_legal.proofs.replays.audited_replay.Goals as goal
 
 pub returns-then-is_some-clause-broken : goal.returns-then-is_some-clause-broken

@@ -1,6 +1,6 @@
 use Rattle.cx_rules.proofs.AcceptorForgets.{acceptor-forgets}
 use Rattle.cx_rules.specs.Abridged.{abridged_link}
-use Rattle.cx_turns.proofs.Steps.{comes_held, comes_step}
+use Rattle.cx_node.proofs.steps.Steps.{comes_held, comes_step}
 use Rattle.cx_mon.proofs.events.comes.Goals as goal
 
 pub returns-clause-step : goal.returns-clause-step

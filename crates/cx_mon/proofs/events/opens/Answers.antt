@@ -1,10 +1,10 @@
 use Rattle.std.specs.Prelude.{length, nat_le}
-use Rattle.cx_acceptor.specs.Rows.{arrived, opening}
+use Rattle.cx_mon.specs.acceptor.Rows.{arrived, opening}
 use Rattle.cx_rules.specs.Abridged.{abridged_link}
 use Rattle.cx_rules.specs.Acceptor.{AwaitsBanner}
 use Rattle.cx_rules.specs.Rows.{new_link}
 use Rattle.cx_rules.proofs.AcceptorForgets.{acceptor-forgets}
-use Rattle.cx_turns.proofs.Steps.{opens_held, opens_step}
+use Rattle.cx_node.proofs.steps.Steps.{opens_held, opens_step}
 use Rattle.cx_mon.proofs.events.opens.Goals as goal
 
 pub returns-clause-step : goal.returns-clause-step

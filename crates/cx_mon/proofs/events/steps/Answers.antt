@@ -3,7 +3,7 @@ use Rattle.std.proofs.Common.{ap}
 use Rattle.cx_rules.specs.Inputs.{input_of}
 use Rattle.cx_rules.specs.Monitor.{MonitorNode}
 use Rattle.cx_rules.specs.MonitorRule.{monitor_rule}
-use Rattle.cx_turns.specs.Steps.{node_of}
+use Rattle.cx_node.specs.steps.Steps.{node_of}
 use Rattle.cx_mon.proofs.Kept.{saves_kept}
 use Rattle.cx_mon.proofs.events.steps.Goals as goal
 

@@ -6,10 +6,10 @@ use Rattle.cx_rules.specs.MonitorRule as rule
 use Rattle.cx_rules.specs.MonitorRule.{turned_at}
 use Rattle.cx_rules.specs.Rows.{arrival}
 use Rattle.cx_rules.proofs.AcceptorForgets.{acceptor-forgets}
-use Rattle.cx_turns.proofs.Turning.{turn_held, turn_step}
-use Rattle.cx_acceptor.specs.Rows.{with_keys}
-use Rattle.cx_acceptor.specs.Stages.{MonitorLink}
-use Rattle.cx_turns.specs.Steps.{node_of}
+use Rattle.cx_node.proofs.steps.Turning.{turn_held, turn_step}
+use Rattle.cx_mon.specs.acceptor.Rows.{with_keys}
+use Rattle.cx_mon.specs.acceptor.Stages.{MonitorLink}
+use Rattle.cx_node.specs.steps.Steps.{node_of}
 use Rattle.cx_mon.proofs.events.turns.Goals as goal
 
 pub returns-clause-step : goal.returns-clause-step

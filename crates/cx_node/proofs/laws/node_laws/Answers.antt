@@ -10,8 +10,8 @@ returns-clause-monitor_rows c = are_the_rows _ _
 pub returns-clause-monitor_denial : goal.returns-clause-monitor_denial
 returns-clause-monitor_denial c = is_the_denial _ _ _ _
 
-pub returns-clause-asker_links : goal.returns-clause-asker_links
-returns-clause-asker_links c = are_the_links _
+pub returns-clause-mon_client_links : goal.returns-clause-mon_client_links
+returns-clause-mon_client_links c = are_the_links _
 
-pub returns-clause-asker_rows : goal.returns-clause-asker_rows
-returns-clause-asker_rows c = are_the_rows _ _
+pub returns-clause-mon_client_rows : goal.returns-clause-mon_client_rows
+returns-clause-mon_client_rows c = are_the_rows _ _

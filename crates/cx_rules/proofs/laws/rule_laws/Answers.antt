@@ -1,4 +1,4 @@
-use Rattle.cx_rules.proofs.AskerDrawing.{asker-logs}
+use Rattle.cx_rules.proofs.MonClientDrawing.{mon_client-logs}
 use Rattle.cx_rules.proofs.Drawing.{monitor-logs}
 use Rattle.cx_rules.proofs.Naming.{monitor-judged, monitor-names}
 use Rattle.cx_rules.proofs.laws.rule_laws.Goals as goal
@@ -12,5 +12,5 @@ returns-clause-monitor_links c = monitor-names
 pub returns-clause-monitor_draws : goal.returns-clause-monitor_draws
 returns-clause-monitor_draws c = monitor-logs
 
-pub returns-clause-asker_draws : goal.returns-clause-asker_draws
-returns-clause-asker_draws c = λ a. asker-logs a a.link.stage
+pub returns-clause-mon_client_draws : goal.returns-clause-mon_client_draws
+returns-clause-mon_client_draws c = λ a. mon_client-logs a a.link.stage

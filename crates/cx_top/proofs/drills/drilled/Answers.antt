@@ -2,10 +2,10 @@
 use Rattle.std.proofs.Common.{◌≡◌, ◌∙◌, ◌++◌, ℕ, List, ap, subst}
 use Rattle.cx_desk.specs.Held.{handlers_of}
 use Rattle.cx_lines.specs.declared.lines.Numbered.{Numbered}
-use Rattle.cx_replay.specs.Serving.{IsReplayOf, idle_lines}
+use Rattle.cx_world.specs.replay.Serving.{IsReplayOf, idle_lines}
 use Rattle.cx_schedule.specs.Drills.{drill_text}
-use Rattle.cx_summary.specs.Summaries.{summary_text}
-use Rattle.cx_summary.specs.declared.summaries.Summary.{Summary}
+use Rattle.cx_top.specs.summary.Summaries.{summary_text}
+use Rattle.cx_top.specs.declared.summaries.Summary.{Summary}
 use Rattle.cx_top.specs.Drills.{breach_line}
 use Rattle.cx_top.specs.Told.{run_told}
 use Rattle.cx_top.proofs.drills.drilled.Goals as goal

@@ -2,7 +2,7 @@
 use Rattle.std.proofs.Common.{◌≡◌, ◌∙◌, ◌++◌, ℕ, List, Err, ap, rules, string_bytes}
 use Rattle.cx_desk.specs.Held.{handlers_of}
 use Rattle.cx_journal.specs.JournalText.{journal_text}
-use Rattle.cx_replay.specs.Serving.{told}
+use Rattle.cx_world.specs.replay.Serving.{told}
 use Rattle.cx_top.specs.Statuses.{schedule_status}
 use Rattle.cx_top.proofs.Besides.{replay_made}
 use Rattle.cx_top.proofs.Reasons.{schedule_reason, schedule_read}

@@ -1,5 +1,5 @@
 use Rattle.std.proofs.Common.{◌≡◌, ◌∙◌, ℕ, List, ap, string_bytes}
-use Rattle.cx_line_help.specs.Sights.{sight_of}
+use Rattle.cx_help.specs.line.Sights.{sight_of}
 use Rattle.cx_top.proofs.Besides.{bad_line_told}
 use Rattle.cx_top.proofs.told.bad_line.Goals as goal
 

@@ -8,19 +8,19 @@ use Rattle.cx_node.specs.cx_rules.specs.Abridged.{abridged_link}
 use Rattle.cx_node.specs.cx_rules.specs.Acceptor.{AwaitsProof, AwaitsRequest}
 use Rattle.cx_node.specs.cx_rules.specs.Secured.{plain_frame}
 use Rattle.cx_rules_session.specs.Envelopes.{authorize_challenge_content, session_sealed}
-use Rattle.cx_rules_session.specs.Guests.{GuestArrival, challenges, sealed_challenge_frame}
+use Rattle.cx_rules_session.specs.IncomingLinks.{IncomingArrival, challenges, sealed_challenge_frame}
 use Rattle.cx_steps.specs.declared.seals.DrawMark.TheVariants as draw
 use Rattle.cx_steps.specs.declared.seals.SealEntry.{SealEntry}
 use Rattle.cx_steps.specs.declared.seals.SealEntry.TheVariants.{Drawn}
-use Rattle.cx_turns.proofs.MadeRows.{behind_as}
+use Rattle.cx_node.proofs.steps.MadeRows.{behind_as}
 use Rattle.cx_verifying.specs.Rows.{arrived, unchanged}
 use Rattle.cx_verifying.proofs.Passing.{challenge_row, holding_behind}
 use Rattle.cx_verifying.proofs.first.challenges.Goals as goal
 
 pub returns : goal.returns
 returns c =
-    λ (shown : Shown) (passes : IsChallenged c.args.asker.now.name.kind (challenge_of c.args.at.now.draw.now.bytes) shown c.args.passed).
-    let a : GuestArrival = arrived c.args.asker.now c.args.at.now (wired c.args.at.now.number c.args.link AwaitsRequest) in
+    λ (shown : Shown) (passes : IsChallenged c.args.mon_client.now.name.kind (challenge_of c.args.at.now.draw.now.bytes) shown c.args.passed).
+    let a : IncomingArrival = arrived c.args.mon_client.now c.args.at.now (wired c.args.at.now.number c.args.link AwaitsRequest) in
     let drawn : SealEntry = Drawn (draw.Challenge (challenge_of a.draw)) in
     let logged : c.push.new.self ≡ drawn ∷ [] = search rules in
     let r = rw (c.in_ok-me.ensures, logged) at c.in_ok-row.ensures in

@@ -6,10 +6,10 @@ use Rattle.cx_authorize.specs.declared.judging.Shown.{Shown}
 use Rattle.cx_rules_session.specs.cx_dice.specs.Draws.{connection_of}
 use Rattle.cx_node.specs.cx_rules.specs.Abridged.{abridged_link}
 use Rattle.cx_node.specs.cx_rules.specs.Rows.{with_opened}
-use Rattle.cx_rules_session.specs.Guests.{GuestArrival, GuestRow, authorizes, looked_entry}
+use Rattle.cx_rules_session.specs.IncomingLinks.{IncomingArrival, IncomingRow, authorizes, looked_entry}
 use Rattle.cx_rules_session.specs.Kinds.{entered_before}
-use Rattle.cx_turns.proofs.MadeRows.{makes_as}
-use Rattle.cx_turns.specs.Making.{row_due}
+use Rattle.cx_node.proofs.steps.MadeRows.{makes_as}
+use Rattle.cx_node.specs.steps.Making.{row_due}
 use Rattle.cx_verifying.specs.Rows.{arrived, unchanged}
 use Rattle.cx_verifying.specs.Stages.{awaiting_proof}
 use Rattle.cx_verifying.proofs.Passing.{authorizes_behind}
@@ -17,11 +17,11 @@ use Rattle.cx_verifying.proofs.second.authorized.Goals as goal
 
 pub returns : goal.returns
 returns c =
-    λ (awaited : Awaited) (shown : Shown) (passes : IsAdmitted c.args.asker.now.view c.args.at.now.reading (connection_of c.args.at.now.draw.now.bytes) shown c.args.passed).
-    let a : GuestArrival = arrived c.args.asker.now c.args.at.now (awaiting_proof c.args.at.now.number c.args.link awaited) in
-    let entered : GuestRow → GuestRow = λ row. entered_before (looked_entry a) row in
+    λ (awaited : Awaited) (shown : Shown) (passes : IsAdmitted c.args.mon_client.now.view c.args.at.now.reading (connection_of c.args.at.now.draw.now.bytes) shown c.args.passed).
+    let a : IncomingArrival = arrived c.args.mon_client.now c.args.at.now (awaiting_proof c.args.at.now.number c.args.link awaited) in
+    let entered : IncomingRow → IncomingRow = λ row. entered_before (looked_entry a) row in
     makes_as abridged_link unchanged a (entered (with_opened c.args.opened (authorizes a [] shown.ticket shown.authorize.nonce)))
     (entered (authorizes a c.args.opened shown.ticket shown.authorize.nonce)) c.looked.result
-    (ap (λ (row : GuestRow). row_due abridged_link (entered row)) (sym (authorizes_behind a c.args.opened shown.ticket shown.authorize.nonce)))
+    (ap (λ (row : IncomingRow). row_due abridged_link (entered row)) (sym (authorizes_behind a c.args.opened shown.ticket shown.authorize.nonce)))
     (c.looked.ensures.row (awaiting_proof c.args.at.now.number c.args.link awaited) (authorizes a [] shown.ticket shown.authorize.nonce) refl
     (c.authorizes-made.ensures awaited shown passes))

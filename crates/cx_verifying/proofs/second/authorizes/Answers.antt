@@ -7,11 +7,11 @@ use Rattle.cx_rules_session.specs.cx_dice.specs.Draws.{connection_of}
 use Rattle.cx_node.specs.cx_rules.specs.Abridged.{abridged_link}
 use Rattle.cx_node.specs.cx_rules.specs.Acceptor.{finished}
 use Rattle.cx_rules_session.specs.Envelopes.{authorize_reply_content, session_sealed}
-use Rattle.cx_rules_session.specs.Guests.{GuestArrival, authority_of, authorized_frame, authorizes}
+use Rattle.cx_rules_session.specs.IncomingLinks.{IncomingArrival, authority_of, authorized_frame, authorizes}
 use Rattle.cx_steps.specs.declared.seals.DrawMark.TheVariants as draw
 use Rattle.cx_steps.specs.declared.seals.SealEntry.{SealEntry}
 use Rattle.cx_steps.specs.declared.seals.SealEntry.TheVariants.{Drawn}
-use Rattle.cx_turns.proofs.MadeRows.{behind_as}
+use Rattle.cx_node.proofs.steps.MadeRows.{behind_as}
 use Rattle.cx_verifying.specs.Rows.{arrived, unchanged}
 use Rattle.cx_verifying.specs.Stages.{awaiting_proof}
 use Rattle.cx_verifying.proofs.Passing.{done_behind, reply_row}
@@ -19,8 +19,8 @@ use Rattle.cx_verifying.proofs.second.authorizes.Goals as goal
 
 pub returns : goal.returns
 returns c =
-    λ (awaited : Awaited) (shown : Shown) (passes : IsAdmitted c.args.asker.now.view c.args.at.now.reading (connection_of c.args.at.now.draw.now.bytes) shown c.args.passed).
-    let a : GuestArrival = arrived c.args.asker.now c.args.at.now (awaiting_proof c.args.at.now.number c.args.link awaited) in
+    λ (awaited : Awaited) (shown : Shown) (passes : IsAdmitted c.args.mon_client.now.view c.args.at.now.reading (connection_of c.args.at.now.draw.now.bytes) shown c.args.passed).
+    let a : IncomingArrival = arrived c.args.mon_client.now c.args.at.now (awaiting_proof c.args.at.now.number c.args.link awaited) in
     let entry : Authority → List SealEntry = λ authority. Drawn (draw.Connection (connection_of a.draw) authority.ticket.name) ∷ [] in
     let drawn : List SealEntry = Drawn (draw.Connection (connection_of a.draw) shown.ticket.name) ∷ [] in
     let logged : c.in_ok-drawn.drawn ≡ drawn = c.in_ok-drawn.ensures ∙ ap entry passes.authorized in

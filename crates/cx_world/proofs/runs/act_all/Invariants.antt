@@ -1,8 +1,8 @@
 -- The lines so far were acted on, and so many of them did nothing.
 use Rattle.std.proofs.Common.{◌≤◌, take}
 use Rattle.cx_desk.specs.Held.{handlers_of}
-use Rattle.cx_run_links.specs.cx_run.specs.Schedules.{after_lines}
-use Rattle.cx_run_links.specs.cx_run.specs.Worlds.{World as RunWorld}
+use Rattle.cx_world_start.specs.cx_run.specs.Schedules.{after_lines}
+use Rattle.cx_world_start.specs.cx_run.specs.Worlds.{World as RunWorld}
 use Rattle.cx_world.specs.Carried.{MakesAlone}
 use Rattle.cx_world.specs.Idle.{CountsIdle}
 use Rattle.cx_world.proofs.runs.act_all.Given as goal

@@ -1,9 +1,9 @@
 -- What it tells of what it holds is what the rules tell.
 use Rattle.std.proofs.Common.{◌∙◌, List, ap}
 use Rattle.std.specs.List.{list_all}
-use Rattle.cx_client_calls.specs.cx_client_links.specs.Kinds.{ClientLink}
-use Rattle.cx_client_calls.specs.cx_rules_session.specs.ClientRule.{is_at_rest, is_idle}
-use Rattle.cx_client_calls.specs.cx_rules_session.specs.Sessions.{HeldSession}
+use Rattle.cx_client.specs.cx_client_events.specs.linking.Kinds.{ClientLink}
+use Rattle.cx_client.specs.cx_rules_session.specs.ClientRule.{is_at_rest, is_idle}
+use Rattle.cx_client.specs.cx_rules_session.specs.Sessions.{HeldSession}
 use Rattle.cx_client.proofs.client.Client.idle.Goals as goal
 
 pub returns-clause-stands : goal.returns-clause-stands

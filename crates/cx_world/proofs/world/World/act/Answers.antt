@@ -1,7 +1,7 @@
 use Rattle.std.proofs.Common.{None}
-use Rattle.cx_run_links.specs.cx_run.specs.Worlds.{World as RunWorld}
+use Rattle.cx_world_start.specs.cx_run.specs.Worlds.{World as RunWorld}
 use Rattle.cx_world.proofs.Making.{ok_makes_alone, relined}
-use Rattle.cx_run_links.specs.cx_run.specs.Schedules.{acts_on, after_line}
+use Rattle.cx_world_start.specs.cx_run.specs.Schedules.{acts_on, after_line}
 use Rattle.cx_world.proofs.world.World.act.Goals as goal
 
 pub returns : goal.returns

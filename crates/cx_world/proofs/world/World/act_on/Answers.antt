@@ -1,10 +1,10 @@
 use Rattle.std.proofs.Common.{None, sym, subst}
 use Rattle.cx_desk.specs.Held.{handlers_of}
-use Rattle.cx_run_links.specs.cx_run.specs.Worlds.{World as RunWorld}
+use Rattle.cx_world_start.specs.cx_run.specs.Worlds.{World as RunWorld}
 use Rattle.cx_world.specs.Carried.{Carries}
 use Rattle.cx_world.proofs.Making.{ok_alone, ok_makes_alone}
 use Rattle.cx_lines.specs.declared.lines.Line.{Line}
-use Rattle.cx_run_links.specs.cx_run.specs.Schedules.{acts_on, on_link, on_node, submits, submitted}
+use Rattle.cx_world_start.specs.cx_run.specs.Schedules.{acts_on, on_link, on_node, submits, submitted}
 use Rattle.cx_world.proofs.world.World.act_on.Goals as goal
 
 pub returns-in-Do : goal.returns-in-Do

@@ -1,12 +1,12 @@
 use Rattle.std.proofs.Common.{◌≡◌, ℕ, List, ap, ◌∙◌, sym, subst}
-use Rattle.cx_run_links.specs.cx_run.specs.Worlds.{World as RunWorld}
+use Rattle.cx_world_start.specs.cx_run.specs.Worlds.{World as RunWorld}
 use Rattle.cx_world.specs.Carried.{Carries}
 use Rattle.cx_world.proofs.Making.{ok_makes}
 use Rattle.cx_lines.specs.declared.link_steps.LinkStep.{LinkStep}
 use Rattle.cx_lines.specs.declared.link_steps.LinkStep.TheVariants as link
-use Rattle.cx_run_links.specs.cx_run.specs.Deliveries.{delivers}
-use Rattle.cx_run_links.specs.cx_run.specs.Schedules.{arrives_again, cuts, ever_sent, injects, on_link}
-use Rattle.cx_run_links.specs.cx_run.specs.Wires.{wire_of}
+use Rattle.cx_world_start.specs.cx_run.specs.Deliveries.{delivers}
+use Rattle.cx_world_start.specs.cx_run.specs.Schedules.{arrives_again, cuts, ever_sent, injects, on_link}
+use Rattle.cx_world_start.specs.cx_run.specs.Wires.{wire_of}
 use Rattle.cx_world.proofs.world.World.act_on_link.Goals as goal
 
 pub returns-in-Again : goal.returns-in-Again

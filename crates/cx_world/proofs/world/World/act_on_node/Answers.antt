@@ -1,13 +1,13 @@
 use Rattle.std.proofs.Common.{None, sym, subst}
 use Rattle.cx_desk.specs.Held.{handlers_of}
-use Rattle.cx_run_links.specs.cx_run.specs.Worlds.{World as RunWorld}
+use Rattle.cx_world_start.specs.cx_run.specs.Worlds.{World as RunWorld}
 use Rattle.cx_world.specs.Carried.{Carries}
 use Rattle.cx_world.proofs.Making.{ok_alone, ok_makes_alone}
 use Rattle.cx_lines.specs.declared.node_steps.NodeStep.{NodeStep}
 use Rattle.cx_lines.specs.declared.node_steps.NodeStep.TheVariants as step
-use Rattle.cx_run_links.specs.cx_rules.specs.Inputs.{Tick}
-use Rattle.cx_run_links.specs.cx_run.specs.Deliveries.{comes, restarts, settles}
-use Rattle.cx_run_links.specs.cx_run.specs.Schedules.{on_node}
+use Rattle.cx_world_start.specs.cx_rules.specs.Inputs.{Tick}
+use Rattle.cx_world_start.specs.cx_run.specs.Deliveries.{comes, restarts, settles}
+use Rattle.cx_world_start.specs.cx_run.specs.Schedules.{on_node}
 use Rattle.cx_world.proofs.world.World.act_on_node.Goals as goal
 
 pub returns-in-Clock : goal.returns-in-Clock

@@ -1,7 +1,7 @@
-use Rattle.cx_run_links.specs.cx_run.specs.Worlds.{World as RunWorld}
+use Rattle.cx_world_start.specs.cx_run.specs.Worlds.{World as RunWorld}
 use Rattle.cx_world.proofs.Making.{ok_makes}
-use Rattle.cx_run_links.specs.cx_rules.specs.Inputs.{Bytes}
-use Rattle.cx_run_links.specs.cx_run.specs.Deliveries.{arrives, comes}
+use Rattle.cx_world_start.specs.cx_rules.specs.Inputs.{Bytes}
+use Rattle.cx_world_start.specs.cx_run.specs.Deliveries.{arrives, comes}
 use Rattle.cx_world.specs.Arriving.{turns_all}
 use Rattle.cx_world.proofs.world.World.arrive.Goals as goal
 

@@ -1,8 +1,8 @@
 use Rattle.std.proofs.Common.{sym, subst}
-use Rattle.cx_run_links.specs.cx_run.specs.Worlds.{World as RunWorld}
+use Rattle.cx_world_start.specs.cx_run.specs.Worlds.{World as RunWorld}
 use Rattle.cx_world.specs.Carried.{Carries}
 use Rattle.cx_world.proofs.Making.{if_so, ok_makes}
-use Rattle.cx_run_links.specs.cx_run.specs.Deliveries.{arrives}
+use Rattle.cx_world_start.specs.cx_run.specs.Deliveries.{arrives}
 use Rattle.cx_world.specs.Ends.{arrives_end}
 use Rattle.cx_world.proofs.world.World.arrive_at.Goals as goal
 

@@ -1,5 +1,5 @@
-use Rattle.cx_run_links.specs.cx_rules.specs.Inputs.{input_of}
-use Rattle.cx_run_links.specs.cx_run.specs.Deliveries.{gives}
+use Rattle.cx_world_start.specs.cx_rules.specs.Inputs.{input_of}
+use Rattle.cx_world_start.specs.cx_run.specs.Deliveries.{gives}
 use Rattle.cx_world.proofs.world.World.come.Goals as goal
 
 pub returns : goal.returns

@@ -1,7 +1,7 @@
-use Rattle.cx_run_links.specs.cx_run.specs.Worlds.{World as RunWorld}
+use Rattle.cx_world_start.specs.cx_run.specs.Worlds.{World as RunWorld}
 use Rattle.cx_world.proofs.Making.{ok_makes}
-use Rattle.cx_run_links.specs.cx_run.specs.Schedules.{cuts}
-use Rattle.cx_run_links.specs.cx_run.specs.Wires.{wire_of}
+use Rattle.cx_world_start.specs.cx_run.specs.Schedules.{cuts}
+use Rattle.cx_world_start.specs.cx_run.specs.Wires.{wire_of}
 use Rattle.cx_world.specs.Arriving.{tells_there}
 use Rattle.cx_world.proofs.Arrivals.{was_cut}
 use Rattle.cx_world.proofs.world.World.cut.Goals as goal

@@ -1,9 +1,9 @@
 use Rattle.std.proofs.Common.{sym, ap, ◌∙◌}
-use Rattle.cx_run_links.specs.cx_run.specs.Worlds.{World as RunWorld}
+use Rattle.cx_world_start.specs.cx_run.specs.Worlds.{World as RunWorld}
 use Rattle.cx_world.proofs.Making.{ok_makes}
-use Rattle.cx_line_words.specs.declared.choices.Side.{Side}
-use Rattle.cx_run_links.specs.cx_run.specs.Wires.{gone_at, wire_of}
-use Rattle.cx_run_links.specs.Tables.{with_changed}
+use Rattle.cx_words.specs.declared.choices.Side.{Side}
+use Rattle.cx_world_start.specs.cx_run.specs.Wires.{gone_at, wire_of}
+use Rattle.cx_world_start.specs.links.Tables.{with_changed}
 use Rattle.cx_world.specs.Arriving.{delivers_gone, tells_there}
 use Rattle.cx_world.proofs.Arrivals.{gone_comes, nothing_owed, seen_at}
 use Rattle.cx_world.proofs.world.World.deliver_gone.Goals as goal

@@ -1,7 +1,7 @@
 use Rattle.std.proofs.Common.{◌≡◌, None, ◌∙◌, arith}
-use Rattle.cx_run_links.specs.cx_run.specs.Worlds.{World as RunWorld}
+use Rattle.cx_world_start.specs.cx_run.specs.Worlds.{World as RunWorld}
 use Rattle.cx_world.proofs.Making.{ok_makes}
-use Rattle.cx_run_links.specs.cx_run.specs.Deliveries.{delivers, drains_side}
+use Rattle.cx_world_start.specs.cx_run.specs.Deliveries.{delivers, drains_side}
 use Rattle.cx_world.specs.Settling.{delivers_many}
 use Rattle.cx_world.proofs.Rounds.{delivered_one_more, drained}
 use Rattle.cx_world.proofs.world.World.drain.Goals as goal

@@ -1,5 +1,5 @@
-use Rattle.cx_run_links.specs.cx_run.specs.Deliveries.{drains_side}
-use Rattle.cx_line_words.specs.declared.choices.Side.TheVariants.{Connector}
+use Rattle.cx_world_start.specs.cx_run.specs.Deliveries.{drains_side}
+use Rattle.cx_words.specs.declared.choices.Side.TheVariants.{Connector}
 use Rattle.cx_world.specs.Settling.{drains_both}
 use Rattle.cx_world.proofs.Rounds.{same_wires}
 use Rattle.cx_world.proofs.world.World.drain_both.Goals as goal

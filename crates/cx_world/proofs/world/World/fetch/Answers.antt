@@ -1,13 +1,13 @@
 use Rattle.std.proofs.Common.{◌≡◌, ap, subst}
-use Rattle.cx_run_links.specs.cx_run.specs.Worlds.{World as RunWorld}
+use Rattle.cx_world_start.specs.cx_run.specs.Worlds.{World as RunWorld}
 use Rattle.cx_world.specs.Carried.{Carries}
 use Rattle.cx_world.proofs.Making.{ok_makes}
 use Rattle.cx_base.specs.Names.{Name}
 use Rattle.cx_base.specs.declared.nodes.NodeName.TheVariants as node
 use Rattle.cx_lines.specs.declared.commands.LineCommand.TheVariants as command
-use Rattle.cx_run_links.specs.cx_rules.specs.Inputs.{Submit}
-use Rattle.cx_run_links.specs.cx_run.specs.Deliveries.{comes}
-use Rattle.cx_run_links.specs.cx_run.specs.Schedules.{submitted}
+use Rattle.cx_world_start.specs.cx_rules.specs.Inputs.{Submit}
+use Rattle.cx_world_start.specs.cx_run.specs.Deliveries.{comes}
+use Rattle.cx_world_start.specs.cx_run.specs.Schedules.{submitted}
 use Rattle.cx_steps.specs.declared.events.Command.TheVariants as told
 use Rattle.cx_world.proofs.world.World.fetch.Goals as goal
 

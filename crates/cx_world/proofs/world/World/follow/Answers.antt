@@ -1,7 +1,7 @@
 use Rattle.std.proofs.Common.{◌≡◌, ℕ, true, false, List, length, None, sym, subst, ◌∙◌}
 use Rattle.std.proofs.lemmas.Result.{on_ok_weaker}
-use Rattle.cx_run_links.specs.cx_run.specs.Deliveries.{open_all}
-use Rattle.cx_run_links.specs.cx_run.specs.Worlds.{World, carried, opened_wires}
+use Rattle.cx_world_start.specs.cx_run.specs.Deliveries.{open_all}
+use Rattle.cx_world_start.specs.cx_run.specs.Worlds.{World, carried, opened_wires}
 use Rattle.cx_steps.specs.declared.effects.Effects.{Effects}
 use Rattle.cx_steps.specs.declared.events.Peer.{Peer}
 use Rattle.cx_world.specs.Carried.{Carries}

@@ -1,7 +1,7 @@
 use Rattle.std.proofs.Common.{sym, subst}
-use Rattle.cx_run_links.specs.cx_rules.specs.Inputs.{input_of}
-use Rattle.cx_run_links.specs.cx_run.specs.Deliveries.{gives}
-use Rattle.cx_run_nodes.specs.declared.made.Made.{Made}
+use Rattle.cx_world_start.specs.cx_rules.specs.Inputs.{input_of}
+use Rattle.cx_world_start.specs.cx_run.specs.Deliveries.{gives}
+use Rattle.cx_world.specs.declared.made.Made.{Made}
 use Rattle.cx_world.specs.Carried.{IsGivenTo}
 use Rattle.cx_world.proofs.Giving.{given_to}
 use Rattle.cx_world.proofs.world.World.give.Goals as goal

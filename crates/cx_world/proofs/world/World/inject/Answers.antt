@@ -1,9 +1,9 @@
 use Rattle.std.proofs.Common.{ap, ◌∙◌}
-use Rattle.cx_run_links.specs.cx_run.specs.Worlds.{World as RunWorld}
+use Rattle.cx_world_start.specs.cx_run.specs.Worlds.{World as RunWorld}
 use Rattle.cx_world.proofs.Making.{ok_makes}
-use Rattle.cx_line_words.specs.declared.choices.Side.{Side}
-use Rattle.cx_run_links.specs.cx_run.specs.Schedules.{injects}
-use Rattle.cx_run_links.specs.cx_run.specs.Wires.{wire_of}
+use Rattle.cx_words.specs.declared.choices.Side.{Side}
+use Rattle.cx_world_start.specs.cx_run.specs.Schedules.{injects}
+use Rattle.cx_world_start.specs.cx_run.specs.Wires.{wire_of}
 use Rattle.cx_world.specs.Arriving.{arrives_there}
 use Rattle.cx_world.proofs.Arrivals.{injected, seen_at}
 use Rattle.cx_world.proofs.world.World.inject.Goals as goal

@@ -1,7 +1,7 @@
 use Rattle.std.proofs.Common.{List, length, subst, sym}
 use Rattle.std.proofs.lemmas.List.{take_all}
-use Rattle.cx_run_links.specs.cx_run.specs.Deliveries.{open_all}
-use Rattle.cx_run_links.specs.cx_run.specs.Worlds.{World, opened_wires}
+use Rattle.cx_world_start.specs.cx_run.specs.Deliveries.{open_all}
+use Rattle.cx_world_start.specs.cx_run.specs.Worlds.{World, opened_wires}
 use Rattle.cx_steps.specs.declared.events.Peer.{Peer}
 use Rattle.cx_world.specs.Carried.{Carries}
 use Rattle.cx_world.proofs.Quiet.{open_more}

@@ -1,7 +1,7 @@
 use Rattle.std.proofs.Common.{length, take}
 use Rattle.cx_desk.specs.Held.{handlers_of}
-use Rattle.cx_run_links.specs.cx_run.specs.Deliveries.{open_all}
-use Rattle.cx_run_links.specs.cx_run.specs.Worlds.{opened_wires}
+use Rattle.cx_world_start.specs.cx_run.specs.Deliveries.{open_all}
+use Rattle.cx_world_start.specs.cx_run.specs.Worlds.{opened_wires}
 use Rattle.cx_world.specs.Carried.{Makes}
 use Rattle.cx_world.proofs.world.World.open_all.Given as goal
 

@@ -1,8 +1,8 @@
 use Rattle.std.proofs.Common.{ℕ, List, Some, ap, ◌∙◌}
-use Rattle.cx_run_links.specs.cx_run.specs.Worlds.{World as RunWorld}
+use Rattle.cx_world_start.specs.cx_run.specs.Worlds.{World as RunWorld}
 use Rattle.cx_world.proofs.Making.{ok_makes}
-use Rattle.cx_run_links.specs.cx_run.specs.Schedules.{arrives_again, ever_sent, injects}
-use Rattle.cx_run_links.specs.cx_run.specs.Wires.{wire_of}
+use Rattle.cx_world_start.specs.cx_run.specs.Schedules.{arrives_again, ever_sent, injects}
+use Rattle.cx_world_start.specs.cx_run.specs.Wires.{wire_of}
 use Rattle.cx_world.proofs.Arrivals.{came_again}
 use Rattle.cx_world.proofs.world.World.repeat.Goals as goal
 

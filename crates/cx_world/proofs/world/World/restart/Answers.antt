@@ -1,6 +1,6 @@
 use Rattle.std.proofs.lemmas.Result.{on_ok_weaker}
-use Rattle.cx_run_links.specs.cx_rules.specs.Inputs.{Restart}
-use Rattle.cx_run_links.specs.cx_run.specs.Deliveries.{tells}
+use Rattle.cx_world_start.specs.cx_rules.specs.Inputs.{Restart}
+use Rattle.cx_world_start.specs.cx_run.specs.Deliveries.{tells}
 use Rattle.cx_world.proofs.world.World.restart.Goals as goal
 
 pub returns : goal.returns

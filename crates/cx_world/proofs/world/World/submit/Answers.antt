@@ -1,11 +1,11 @@
 use Rattle.std.proofs.Common.{◌≡◌, List, sym, ap, ◌∙◌, subst}
-use Rattle.cx_run_links.specs.cx_run.specs.Worlds.{World as RunWorld}
+use Rattle.cx_world_start.specs.cx_run.specs.Worlds.{World as RunWorld}
 use Rattle.cx_world.specs.Carried.{Carries}
 use Rattle.cx_world.proofs.Making.{ok_makes}
 use Rattle.cx_base.specs.declared.kinds.EntityType.{EntityType}
 use Rattle.cx_lines.specs.declared.commands.LineCommand.{LineCommand}
 use Rattle.cx_lines.specs.declared.commands.LineCommand.TheVariants as command
-use Rattle.cx_run_links.specs.cx_run.specs.Schedules.{submitted}
+use Rattle.cx_world_start.specs.cx_run.specs.Schedules.{submitted}
 use Rattle.cx_world.proofs.world.World.submit.Goals as goal
 
 pub returns-in-Login : goal.returns-in-Login

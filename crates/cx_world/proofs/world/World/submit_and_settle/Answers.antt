@@ -1,8 +1,8 @@
-use Rattle.cx_run_links.specs.cx_run.specs.Worlds.{World as RunWorld}
+use Rattle.cx_world_start.specs.cx_run.specs.Worlds.{World as RunWorld}
 use Rattle.cx_world.proofs.Making.{ok_makes_alone}
 use Rattle.std.proofs.Common.{None}
-use Rattle.cx_run_links.specs.cx_run.specs.Deliveries.{settles}
-use Rattle.cx_run_links.specs.cx_run.specs.Schedules.{submits, submitted}
+use Rattle.cx_world_start.specs.cx_run.specs.Deliveries.{settles}
+use Rattle.cx_world_start.specs.cx_run.specs.Schedules.{submits, submitted}
 use Rattle.cx_world.proofs.world.World.submit_and_settle.Goals as goal
 
 pub returns : goal.returns

@@ -2,9 +2,9 @@ use Rattle.std.proofs.Common.{◌≡◌, subst}
 use Rattle.std.proofs.lemmas.Result.{on_ok_weaker}
 use Rattle.cx_desk.specs.Handlers.{Handlers}
 use Rattle.cx_desk.specs.Held.{handlers_of}
-use Rattle.cx_run_links.specs.cx_rules.specs.Inputs.{input_of}
-use Rattle.cx_run_links.specs.cx_run.specs.Deliveries.{gives}
-use Rattle.cx_run_links.specs.cx_run.specs.Worlds.{World, carried}
+use Rattle.cx_world_start.specs.cx_rules.specs.Inputs.{input_of}
+use Rattle.cx_world_start.specs.cx_run.specs.Deliveries.{gives}
+use Rattle.cx_world_start.specs.cx_run.specs.Worlds.{World, carried}
 use Rattle.cx_steps.specs.declared.effects.Effects.{Effects}
 use Rattle.cx_world.specs.Carried.{Carries, Makes}
 use Rattle.cx_world.proofs.world.World.tell.Goals as goal

@@ -1,7 +1,7 @@
 use Rattle.std.proofs.Common.{sym, subst}
-use Rattle.cx_run_links.specs.cx_rules.specs.Inputs.{Gone}
-use Rattle.cx_run_links.specs.cx_run.specs.Deliveries.{tells}
-use Rattle.cx_run_links.specs.cx_run.specs.Worlds.{World as RunWorld}
+use Rattle.cx_world_start.specs.cx_rules.specs.Inputs.{Gone}
+use Rattle.cx_world_start.specs.cx_run.specs.Deliveries.{tells}
+use Rattle.cx_world_start.specs.cx_run.specs.Worlds.{World as RunWorld}
 use Rattle.cx_world.specs.Carried.{Carries}
 use Rattle.cx_world.specs.Ends.{tells_end}
 use Rattle.cx_world.proofs.Making.{if_so, ok_makes}

@@ -1,5 +1,5 @@
 use Rattle.std.proofs.Common.{Option, sym, subst}
-use Rattle.cx_run_links.specs.cx_run.specs.Worlds.{World as RunWorld}
+use Rattle.cx_world_start.specs.cx_run.specs.Worlds.{World as RunWorld}
 use Rattle.cx_world.specs.Arriving.{tells_there}
 use Rattle.cx_world.specs.Carried.{Carries}
 use Rattle.cx_world.specs.Ends.{tells_end}

@@ -1,7 +1,7 @@
 use Rattle.std.proofs.Common.{None}
-use Rattle.cx_run_links.specs.cx_rules.specs.Inputs.{Tick}
-use Rattle.cx_run_links.specs.cx_run.specs.Deliveries.{comes, settles}
-use Rattle.cx_run_links.specs.cx_run.specs.Worlds.{World as RunWorld}
+use Rattle.cx_world_start.specs.cx_rules.specs.Inputs.{Tick}
+use Rattle.cx_world_start.specs.cx_run.specs.Deliveries.{comes, settles}
+use Rattle.cx_world_start.specs.cx_run.specs.Worlds.{World as RunWorld}
 use Rattle.cx_world.proofs.Making.{ok_makes_alone}
 use Rattle.cx_world.proofs.world.World.tick.Goals as goal
 

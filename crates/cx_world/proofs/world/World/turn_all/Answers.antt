@@ -1,6 +1,6 @@
 use Rattle.std.proofs.Common.{sym, ap, ◌∙◌}
-use Rattle.cx_run_links.specs.cx_rules.specs.Inputs.{Turn}
-use Rattle.cx_run_links.specs.cx_run.specs.Deliveries.{gives}
+use Rattle.cx_world_start.specs.cx_rules.specs.Inputs.{Turn}
+use Rattle.cx_world_start.specs.cx_run.specs.Deliveries.{gives}
 use Rattle.cx_steps.specs.declared.effects.Effects.{Effects}
 use Rattle.cx_world.specs.Carried.{IsGivenTo}
 use Rattle.cx_world.proofs.Turns.{IsTurning, begun, rested, turned}

@@ -1,6 +1,6 @@
 use Rattle.std.proofs.Common.{ℕ, Option}
 use Rattle.cx_desk.specs.Held.{handlers_of}
-use Rattle.cx_run_links.specs.cx_run.specs.Worlds.{World as RunWorld}
+use Rattle.cx_world_start.specs.cx_run.specs.Worlds.{World as RunWorld}
 use Rattle.cx_world.specs.Carried.{Began, Carries}
 use Rattle.cx_world.proofs.Turns.{IsTurning}
 use Rattle.cx_world.proofs.world.World.turn_all.Given as goal

@@ -1,10 +1,10 @@
 use Rattle.std.specs.Prelude.{filter}
 use Rattle.std.proofs.lemmas.List.{take_all}
-use Rattle.cx_run_links.specs.cx_run.specs.Deliveries.{vanish}
+use Rattle.cx_world_start.specs.cx_run.specs.Deliveries.{vanish}
 use Rattle.std.proofs.Common.{◌≡◌, ◌<◌, ◌≤◌, List, length, subst, ap, ◌∙◌, sym, arith}
-use Rattle.cx_run_links.specs.cx_run.specs.Wires.{Wire, has_end}
-use Rattle.cx_run_links.specs.cx_run.specs.Worlds.{World}
-use Rattle.cx_run_links.specs.Tables.{AreNumbered}
+use Rattle.cx_world_start.specs.cx_run.specs.Wires.{Wire, has_end}
+use Rattle.cx_world_start.specs.cx_run.specs.Worlds.{World}
+use Rattle.cx_world_start.specs.links.Tables.{AreNumbered}
 use Rattle.cx_world.specs.Carried.{Carries}
 use Rattle.cx_world.proofs.Vanishing.{vanish_more}
 use Rattle.cx_world.proofs.world.World.vanish.Goals as goal

@@ -1,6 +1,6 @@
 use Rattle.std.proofs.Common.{List, sym, ap, ◌∙◌}
 use Rattle.std.proofs.lemmas.Result.{on_ok_weaker}
-use Rattle.cx_run_links.specs.cx_run.specs.Wires.{Wire, wire_of}
+use Rattle.cx_world_start.specs.cx_run.specs.Wires.{Wire, wire_of}
 use Rattle.cx_world.specs.Events.{far_seen}
 use Rattle.cx_world.proofs.Carrying.{stays_carried, vanished_carried}
 use Rattle.cx_world.proofs.world.World.vanish_at.Goals as goal

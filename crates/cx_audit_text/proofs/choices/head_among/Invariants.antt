@@ -1,0 +1,7 @@
+use Rattle.std.proofs.Common.{◌≡◌, drop}
+use Rattle.cx_words.specs.lines.Choices.{chosen}
+use Rattle.cx_audit_text.specs.words.Choices.{head_word}
+use Rattle.cx_audit_text.proofs.choices.head_among.Given as goal
+
+abbrev pub invariant-loop-value : goal.invariant-loop-value
+invariant-loop-value l = chosen head_word (drop l.value-index l.all) l.word ≡ chosen head_word l.all l.word

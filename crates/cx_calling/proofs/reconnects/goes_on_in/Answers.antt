@@ -1,9 +1,0 @@
-use Rattle.cx_presenting.specs.cx_rules_session.specs.Presenter.{CallStage}
-use Rattle.cx_calling.proofs.Sending.{waiting_sent}
-use Rattle.cx_calling.proofs.reconnects.goes_on_in.Goals as goal
-
-pub returns : goal.returns
-returns c =
-    λ (stage : CallStage).
-    let is = rw c.new.ensures at c.in_ok-row.ensures in
-    waiting_sent c.args.asker.now c.args.at.now c.args.link stage c.args.callee c.args.cookie c.args.last c.args.session.now c.in_ok-made.made c.in_ok-row.row c.in_ok-made.ensures is

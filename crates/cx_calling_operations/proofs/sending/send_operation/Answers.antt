@@ -1,7 +1,0 @@
-use Rattle.cx_calling.specs.cx_sending.proofs.Writable.{short_body}
-use Rattle.cx_calling_operations.proofs.sending.send_operation.Goals as goal
-
-pub send_message-requires : goal.send_message-requires
-send_message-requires c =
-    let text = rw c.new-body.ensures at c.in_ok-put_operation.ensures.ok in
-    rw text (short_body c.args.operation.now c.requires)

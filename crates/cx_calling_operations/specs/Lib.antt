@@ -1,7 +1,0 @@
--- Behind `pub use`: what crates above name through this one, and so needn't list (`checks/ways`).
-pub use Rattle.cx_calling as cx_calling
-pub use Rattle.cx_holdings as cx_holdings
-pub use Rattle.cx_calling.specs.cx_presenting as cx_presenting
-pub use Rattle.cx_calling.specs.cx_rules_session as cx_rules_session
-pub use Rattle.cx_wire as cx_wire
-pub mod Frames

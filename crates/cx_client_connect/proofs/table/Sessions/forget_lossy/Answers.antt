@@ -1,0 +1,12 @@
+use Rattle.std.proofs.Common.{◌∙◌, ap, rules}
+use Rattle.std.specs.Prelude.{◌&&◌, not}
+use Rattle.std.proofs.lemmas.Fn.{filter_same}
+use Rattle.cx_base.specs.Names.{same_name}
+use Rattle.cx_rules_session.specs.Sessions.{HeldSession}
+use Rattle.cx_client_connect.specs.session.Table.{KeptSessions, without_lossy}
+use Rattle.cx_client_connect.proofs.table.Sessions.forget_lossy.Goals as goal
+
+pub returns : goal.returns
+returns c =
+    filter_same _ (λ (s : HeldSession). not (s.lossy && same_name s.daemon c.args.daemon.now)) _ (λ x b f' k. search rules) _ _ c.retain.ensures.filtered
+    ∙ ap (λ (k : KeptSessions). without_lossy c.args.daemon.now k.sessions) c.self.view_is

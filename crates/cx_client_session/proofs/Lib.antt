@@ -1,0 +1,2 @@
+pub mod calling
+pub mod operations

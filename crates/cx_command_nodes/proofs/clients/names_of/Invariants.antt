@@ -1,5 +1,0 @@
-use Rattle.std.proofs.Common.{◌≡◌, map, take}
-use Rattle.cx_command_nodes.proofs.clients.names_of.Given as goal
-
-abbrev pub invariant-loop-daemon : goal.invariant-loop-daemon
-invariant-loop-daemon l = l.names ≡ map (λ d. d.name) (take l.daemon-index l.daemons)

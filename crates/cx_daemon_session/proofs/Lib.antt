@@ -1,0 +1,4 @@
+pub mod coming
+pub mod idents
+pub mod messages
+pub mod turn

@@ -1,0 +1,49 @@
+-- What can't be read is refused before the book is asked, and so is a client that requires features.
+use Rattle.std.proofs.Common.{◌≡◌, ◌∙◌, ◌==◌, Bool, [], None, Result, Ok, Err, refl, sym, ap}
+use Rattle.std.specs.Prelude.{if◌then◌else◌}
+use Rattle.cx_control.specs.declared.idents.ClientIdent.{ClientIdent}
+use Rattle.cx_journal.specs.declared.faults.BytesFault.{BytesFault}
+use Rattle.cx_node.specs.cx_rules.specs.Acceptor.{misses}
+use Rattle.cx_node.specs.cx_rules.specs.Rows.{refuses_bytes}
+use Rattle.cx_daemon_session.specs.cx_rules_session.specs.IncomingLinks.{IncomingArrival, IncomingRow}
+use Rattle.cx_daemon_session.specs.cx_rules_session.specs.Hosting.{Deciding, Hosted, asks_admission, comes_to, on_client_ident}
+use Rattle.cx_node.specs.steps.Stages.{keys_alone}
+use Rattle.cx_daemon_session.specs.cx_verifying.specs.Stages.{awaiting_ident}
+use Rattle.cx_daemon_session.proofs.coming.Deciding.{one-from}
+use Rattle.cx_daemon_session.proofs.coming.Made.{come_stays}
+use Rattle.cx_daemon_session.specs.coming.Hosted.{done_as, due_behind}
+use Rattle.cx_daemon_session.specs.idents.Pending.{ident_arrival}
+use Rattle.cx_daemon_session.proofs.idents.Behind.{unequal}
+use Rattle.cx_daemon_session.proofs.idents_idents.on_client_ident.Goals as goal
+
+pub returns-in_ok-came-in-Err-clause-begun : goal.returns-in_ok-came-in-Err-clause-begun
+returns-in_ok-came-in-Err-clause-begun c =
+    let a : IncomingArrival = ident_arrival c.args.mon_client.now c.args.at.now c.args.link c.args.owner in
+    let due : IncomingRow = refuses_bytes a c.in-Err.why [] in
+    let is = c.in_ok-came-in-Err.ensures (awaiting_ident c.args.at.now.number c.args.link c.args.owner) due refl (rw c.from.ensures refl) in
+    let decided : Result ClientIdent BytesFault → Deciding Hosted = λ read. due_behind c.args.opened (on_client_ident a (keys_alone c.args.link.keys) c.args.owner read) in
+    one-from (done_as c.args.mon_client.now c.in_ok-came-in-Err.came None) (decided c.args.read) (is.made ∙ ap decided (sym c.in-Err.is))
+
+pub returns-in_ok-came-in-Err-clause-stays : goal.returns-in_ok-came-in-Err-clause-stays
+returns-in_ok-came-in-Err-clause-stays c =
+    let a : IncomingArrival = ident_arrival c.args.mon_client.now c.args.at.now c.args.link c.args.owner in
+    let due : IncomingRow = refuses_bytes a c.in-Err.why [] in
+    let is = c.in_ok-came-in-Err.ensures (awaiting_ident c.args.at.now.number c.args.link c.args.owner) due refl (rw c.from.ensures refl) in
+    come_stays c.args.mon_client.now c.args.at.now.number c.args.opened due c.in_ok-came-in-Err.came is
+
+pub returns-in_ok-came-in-Ok-clause-begun : goal.returns-in_ok-came-in-Ok-clause-begun
+returns-in_ok-came-in-Ok-clause-begun c =
+    let a : IncomingArrival = ident_arrival c.args.mon_client.now c.args.at.now c.args.link c.args.owner in
+    let due : IncomingRow = misses a (keys_alone c.args.link.keys) c.in-Ok.ident.required in
+    let is = c.in_ok-came-in-Ok.ensures (awaiting_ident c.args.at.now.number c.args.link c.args.owner) due refl (c.misses-made.ensures c.args.owner) in
+    let decided : Result ClientIdent BytesFault → Deciding Hosted = λ read. due_behind c.args.opened (on_client_ident a (keys_alone c.args.link.keys) c.args.owner read) in
+    let by_test : Bool → Deciding Hosted = λ none.
+    due_behind c.args.opened (if none then asks_admission a (keys_alone c.args.link.keys) c.args.owner c.in-Ok.ident else comes_to due) in
+    one-from (done_as c.args.mon_client.now c.in_ok-came-in-Ok.came None) (decided c.args.read) (is.made ∙ sym (ap by_test (unequal c.in-Ok.ident.required 0 c.if-ident-eq0.false)) ∙ ap decided (sym c.in-Ok.is))
+
+pub returns-in_ok-came-in-Ok-clause-stays : goal.returns-in_ok-came-in-Ok-clause-stays
+returns-in_ok-came-in-Ok-clause-stays c =
+    let a : IncomingArrival = ident_arrival c.args.mon_client.now c.args.at.now c.args.link c.args.owner in
+    let due : IncomingRow = misses a (keys_alone c.args.link.keys) c.in-Ok.ident.required in
+    let is = c.in_ok-came-in-Ok.ensures (awaiting_ident c.args.at.now.number c.args.link c.args.owner) due refl (c.misses-made.ensures c.args.owner) in
+    come_stays c.args.mon_client.now c.args.at.now.number c.args.opened due c.in_ok-came-in-Ok.came is

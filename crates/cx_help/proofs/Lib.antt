@@ -1,0 +1,3 @@
+pub mod line
+pub mod keyring
+pub mod command

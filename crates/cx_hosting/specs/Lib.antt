@@ -1,6 +1,0 @@
--- Behind `pub use`: what crates above name through this one, and so needn't list (`checks/ways`).
-pub use Rattle.cx_guest_rows.specs.cx_authorize as cx_authorize
-pub use Rattle.cx_guest_rows as cx_guest_rows
-pub use Rattle.cx_guest_rows.specs.cx_rules_session as cx_rules_session
-pub use Rattle.cx_guest_rows.specs.cx_verifying as cx_verifying
-pub mod Pending

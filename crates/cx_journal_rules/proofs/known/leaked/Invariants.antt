@@ -1,6 +1,0 @@
-use Rattle.std.proofs.Common.{take}
-use Rattle.cx_journal_rules.specs.Tests.{AreLeaks}
-use Rattle.cx_journal_rules.proofs.known.leaked.Given as goal
-
-abbrev pub invariant-loop-place : goal.invariant-loop-place
-invariant-loop-place l = AreLeaks (take l.place l.entries) l.leaks

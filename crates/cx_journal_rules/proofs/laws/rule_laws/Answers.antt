@@ -1,5 +1,0 @@
-use Rattle.cx_journal_rules.proofs.RuleLaws.{kept_from, legal_from}
-use Rattle.cx_journal_rules.proofs.laws.rule_laws.Goals as goal
-
-pub returns : goal.returns
-returns c = λ entries. (legal_from entries, kept_from entries)

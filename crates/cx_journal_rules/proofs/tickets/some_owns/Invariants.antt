@@ -1,7 +1,0 @@
-use Rattle.std.proofs.Common.{◌≡◌, drop, map}
-use Rattle.std.specs.List.{list_any}
-use Rattle.cx_journal_rules.specs.Tests.{owns}
-use Rattle.cx_journal_rules.proofs.tickets.some_owns.Given as goal
-
-abbrev pub invariant-loop-entry : goal.invariant-loop-entry
-invariant-loop-entry l = list_any (owns l.ticket) (map (λ e. e.now) (drop l.entry-index l.entries)) ≡ list_any (owns l.ticket) (map (λ e. e.now) l.entries)

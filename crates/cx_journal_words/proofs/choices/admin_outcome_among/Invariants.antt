@@ -1,7 +1,0 @@
-use Rattle.std.proofs.Common.{◌≡◌, drop}
-use Rattle.cx_line_words.specs.Choices.{chosen}
-use Rattle.cx_journal_words.specs.Choices.{admin_outcome_word}
-use Rattle.cx_journal_words.proofs.choices.admin_outcome_among.Given as goal
-
-abbrev pub invariant-loop-value : goal.invariant-loop-value
-invariant-loop-value l = chosen admin_outcome_word (drop l.value-index l.all) l.word ≡ chosen admin_outcome_word l.all l.word

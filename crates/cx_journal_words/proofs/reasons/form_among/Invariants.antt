@@ -1,7 +1,0 @@
-use Rattle.std.proofs.Common.{◌≡◌, drop}
-use Rattle.cx_line_words.specs.Choices.{chosen}
-use Rattle.cx_journal_words.specs.Reasons.{reason_word}
-use Rattle.cx_journal_words.proofs.reasons.form_among.Given as goal
-
-abbrev pub invariant-loop-value : goal.invariant-loop-value
-invariant-loop-value l = chosen reason_word (drop l.value-index l.all) l.word ≡ chosen reason_word l.all l.word

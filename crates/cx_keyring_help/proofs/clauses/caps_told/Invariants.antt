@@ -1,6 +1,0 @@
-use Rattle.std.proofs.Common.{◌≡◌, ◌++◌, drop, string_bytes}
-use Rattle.cx_keyring_help.specs.Clauses.{caps_told}
-use Rattle.cx_keyring_help.proofs.clauses.caps_told.Given as goal
-
-abbrev pub invariant-loop-grant : goal.invariant-loop-grant
-invariant-loop-grant l = string_bytes l.told ++ caps_told l.all l.name (drop l.grant-index l.grants) ≡ caps_told l.all l.name l.grants

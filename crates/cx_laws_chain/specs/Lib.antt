@@ -1,7 +1,0 @@
--- Behind `pub use`: what crates above name through this one, and so needn't list (`checks/ways`).
-pub use Rattle.cx_laws_calling as cx_laws_calling
-pub use Rattle.cx_laws_calling.specs.cx_laws_login as cx_laws_login
-pub use Rattle.cx_laws_calling.specs.cx_rules as cx_rules
-pub use Rattle.cx_laws_calling.specs.cx_rules_session as cx_rules_session
-pub use Rattle.cx_laws_calling.specs.cx_run as cx_run
-pub mod Chain

@@ -1,0 +1,2 @@
+pub mod KeepsExpiry
+pub mod LooksLast

@@ -1,0 +1,13 @@
+pub mod Shown
+pub mod ReadParts
+pub mod IncomingParts
+pub mod DaemonParts
+pub mod MonitorHands
+pub mod MonitorLogsIn
+pub mod MonitorShows
+pub mod ClientShows
+pub mod PointShows
+pub mod Tickets
+pub mod Fetches
+pub mod Bounds
+pub mod Whole

@@ -1,0 +1,2 @@
+mod Entities
+mod Monitors

@@ -1,0 +1,4 @@
+mod MonClientSaves
+mod ClientSaves
+mod DaemonSaves
+mod IncomingSaves

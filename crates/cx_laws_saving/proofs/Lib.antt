@@ -1,4 +1,0 @@
-mod AskerSaves
-mod ClientSaves
-mod DaemonSaves
-mod GuestSaves

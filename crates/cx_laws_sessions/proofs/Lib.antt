@@ -1,0 +1,3 @@
+pub mod session
+pub mod queues
+pub mod waiting

@@ -1,0 +1,11 @@
+pub mod Lists
+pub mod Standing
+pub mod Moves
+pub mod Keeping
+pub mod Books
+pub mod IncomingLinks
+pub mod MonClients
+pub mod Daemons
+pub mod Clients
+pub mod Monitors
+pub mod Runs

@@ -1,0 +1,12 @@
+//! Laws of the sessions that a journal shows: in which of them operations are handled, and how they end.
+//! Laws of what clients send in a session and daemons handle in one: in order, each once.
+//! Laws of what waits at clients: nothing is forgotten but what was acknowledged, and all that waits is sent again.
+#![tactic(auto)]
+
+mod queues_laws;
+mod session_laws;
+mod waiting_laws;
+
+pub use queues_laws::queue_laws;
+pub use session_laws::session_laws;
+pub use waiting_laws::waiting_laws;

@@ -1,0 +1,2 @@
+pub mod told
+pub mod printed

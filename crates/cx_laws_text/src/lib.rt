@@ -1,0 +1,11 @@
+//! What the lines of a journal tell of its entries keeps the laws that the entries keep.
+//! The text of a journal, read again: it says what is told of its entries, and nothing else.
+#![tactic(auto)]
+
+mod printed_laws;
+mod told_laws;
+mod types;
+
+pub use printed_laws::printed_laws;
+pub use told_laws::told_laws;
+pub use types::have_types;

@@ -1,0 +1,4 @@
+pub mod calling
+pub mod chain
+pub mod authorize
+pub mod fetch

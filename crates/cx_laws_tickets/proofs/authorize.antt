@@ -1,0 +1,15 @@
+pub mod Judging
+pub mod Refusing
+pub mod IncomingLinks
+pub mod Hosting
+pub mod Steps
+pub mod Opened
+pub mod Backing
+pub mod KeepingKeys
+pub mod Keys
+pub mod HostingKeys
+pub mod Telling
+pub mod DaemonRows
+pub mod DaemonStep
+pub mod Viewing
+pub mod Opening

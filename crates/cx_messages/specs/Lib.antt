@@ -1,5 +1,0 @@
--- Behind `pub use`: what crates above name through this one, and so needn't list (`checks/ways`).
-pub use Rattle.cx_turns.specs.cx_link as cx_link
-pub use Rattle.cx_turns as cx_turns
-pub mod Reading
-pub mod Sending

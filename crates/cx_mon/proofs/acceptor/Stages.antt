@@ -1,0 +1,32 @@
+-- Facts of the links as the monitor holds them.
+use Rattle.std.proofs.Common.{◌≡◌, ℕ, List, Result, Ok, Err, OnOk, refl}
+use Rattle.cx_mon.specs.acceptor.Stages.{link_held}
+use Rattle.cx_mon.specs.declared.links.Stage.{Stage}
+use Rattle.cx_mon.specs.declared.links.Stage.TheVariants as held
+use Rattle.cx_rules.specs.Abridged.{abridged_link}
+use Rattle.cx_node.specs.steps.Stages.{with_more}
+use Rattle.cx_node.specs.steps.Steps.{IsFed}
+
+pub number_held : (number : ℕ) (stage : Stage) → (link_held number stage).number ≡ number
+number_held number (held.AwaitsBanner wire) = refl
+number_held number (held.AwaitsHello wire) = refl
+number_held number (held.AwaitsRequest wire) = refl
+number_held number (held.AwaitsProof wire offer gid) = refl
+number_held number (held.AwaitsSignature signing bearer) = refl
+number_held number (held.AwaitsIdent link bearer) = refl
+number_held number (held.Open link bearer) = refl
+
+-- each of them is a link of which no more can be forgotten
+pub held_abridged : (number : ℕ) (stage : Stage) → abridged_link (link_held number stage) ≡ link_held number stage
+held_abridged number (held.AwaitsBanner wire) = refl
+held_abridged number (held.AwaitsHello wire) = refl
+held_abridged number (held.AwaitsRequest wire) = refl
+held_abridged number (held.AwaitsProof wire offer gid) = refl
+held_abridged number (held.AwaitsSignature signing bearer) = refl
+held_abridged number (held.AwaitsIdent link bearer) = refl
+held_abridged number (held.Open link bearer) = refl
+
+pub link_fed : {X E : Type 0} (number : ℕ) (old new : Stage) (bytes : List ℕ) (r : Result X E) → OnOk r (link_held number new ≡ with_more bytes (link_held number old))
+    → OnOk r (IsFed abridged_link (link_held number old) bytes (link_held number new))
+link_fed number old new bytes (Ok x) e = (e, held_abridged number new)
+link_fed number old new bytes (Err error) e = tt

@@ -1,0 +1,10 @@
+pub mod Events
+pub mod Greetings
+pub mod Making
+pub mod Requests
+pub mod Sending
+pub mod Signatures
+pub mod Stages
+pub mod Steps
+pub mod Turns
+pub mod Upkeep

@@ -1,0 +1,2 @@
+pub mod linking
+pub mod timing

@@ -1,0 +1,3 @@
+pub mod linking
+pub mod timing
+pub mod site

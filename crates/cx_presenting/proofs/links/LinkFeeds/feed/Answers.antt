@@ -1,6 +1,0 @@
-use Rattle.cx_presenting.proofs.Stages.{link_fed}
-use Rattle.cx_presenting.proofs.links.LinkFeeds.feed.Goals as goal
-
-pub returns-clause-fed : goal.returns-clause-fed
-returns-clause-fed c =
-    rw (← c.self.view_is) (link_fed c.self.inside.number c.self.inside.stage c.feed.new.self c.args.bytes.now c.feed.result (c.feed.ensures c.self.inside.number))

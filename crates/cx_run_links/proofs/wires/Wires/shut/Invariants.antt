@@ -1,6 +1,0 @@
-use Rattle.std.proofs.Common.{◌≡◌, take}
-use Rattle.cx_run.specs.Worlds.{shuts_all}
-use Rattle.cx_run_links.proofs.wires.Wires.shut.Given as goal
-
-abbrev pub invariant-loop-number : goal.invariant-loop-number
-invariant-loop-number l = l.self ≡ shuts_all l.who l.initial.self (take l.number-index l.numbers)

@@ -1,7 +1,0 @@
-use Rattle.std.proofs.Common.{◌≡◌, take}
-use Rattle.std.specs.Prelude.{filter}
-use Rattle.cx_run_head.specs.cx_run.specs.Happenings.{stays}
-use Rattle.cx_run_nodes.proofs.made.staying.Given as goal
-
-abbrev pub invariant-loop-seal : goal.invariant-loop-seal
-invariant-loop-seal l = l.kept ≡ filter stays (take l.seal-index l.seals)

@@ -1,6 +1,0 @@
-use Rattle.std.proofs.Common.{◌≡◌, ◌++◌, map, take, drop}
-use Rattle.cx_run_nodes.specs.Held.{reads}
-use Rattle.cx_run_nodes.proofs.nodes.read_members.Given as goal
-
-abbrev pub invariant-loop-member : goal.invariant-loop-member
-invariant-loop-member l = l.member-items ≡ map (λ m. reads l.reading m) (take l.member-index l.initial.member-items) ++ drop l.member-index l.initial.member-items

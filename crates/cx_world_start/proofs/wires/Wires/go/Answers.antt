@@ -1,0 +1,23 @@
+use Rattle.std.proofs.Common.{List, refl, ap, ◌∙◌}
+use Rattle.cx_run.specs.Wires.{Wire, gone_at}
+use Rattle.cx_world_start.proofs.links.Calming.{table_changed}
+use Rattle.cx_world_start.proofs.links.Numbers.{Stands, stands, changed_there, gone_number}
+use Rattle.cx_world_start.proofs.wires.Wires.go.Goals as goal
+
+pub invariant_of-self-in-Some : goal.invariant_of-self-in-Some
+invariant_of-self-in-Some c =
+    let items : List Wire = c.self.inside.held.items in
+    let old : Wire = c.index_mut-wire.result.now in
+    let new : Wire = c.go.new.self in
+    let within = rw c.as_slice.ensures.value at c.in-Some.ensures.some.0 in
+    let at : Stands items c.args.number c.in-Some.place old new = stands items c.args.number c.in-Some.place old new c.self.invariant.numbered within c.in-Some.ensures.some.1 c.index_mut-wire.ensures.value (ap (λ (w : Wire). w.number) c.go.ensures ∙ gone_number c.args.side old) in
+    table_changed items c.args.number c.in-Some.place old new at c.self.inside.busy c.add.new.self c.args.number refl c.self.invariant c.in_ok-add-in-Some.ensures.added c.in_ok-add-in-Some.ensures.kept
+
+pub returns-in_ok-add-in-Some-clause-ok : goal.returns-in_ok-add-in-Some-clause-ok
+returns-in_ok-add-in-Some-clause-ok c =
+    let items : List Wire = c.self.inside.held.items in
+    let old : Wire = c.index_mut-wire.result.now in
+    let new : Wire = c.go.new.self in
+    let within = rw c.as_slice.ensures.value at c.in-Some.ensures.some.0 in
+    let at : Stands items c.args.number c.in-Some.place old new = stands items c.args.number c.in-Some.place old new c.self.invariant.numbered within c.in-Some.ensures.some.1 c.index_mut-wire.ensures.value (ap (λ (w : Wire). w.number) c.go.ensures ∙ gone_number c.args.side old) in
+    rw (← c.self.view_is) (changed_there items c.args.number c.in-Some.place old new at (λ w. gone_at w c.args.side) c.go.ensures)
