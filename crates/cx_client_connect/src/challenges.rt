@@ -21,7 +21,7 @@ use cx_control::{AuthBadMethod, AuthReplyMore};
 use cx_frame::Frame;
 use cx_holdings::MonClient;
 use cx_journal::BytesFault;
-use cx_link::PlainLink;
+use cx_link::{PlainLink, tag};
 use cx_node::{Moment, NoRow, NodeRow, due, goes_on_unchanged, payload_part};
 use std::alloc::{AllocError, Global};
 
@@ -37,11 +37,11 @@ pub(crate) fn while_challenged(
 ) -> Result<NodeRow<Link, Change>, NoRow>
     ensures { Makes mon_client.now at.now (awaiting_challenge at.now.number link callee presenting) (λ a. while_challenged a callee presenting frame.now) result }
 {
-    if frame.tag == 3 {
+    if frame.tag == tag::AUTH_BAD_METHOD {
         let read = payload_part::<AuthBadMethod>(alloc, frame)?;
         on_bad_method(mon_client, at, read)
     } else {
-        let read = due::<AuthReplyMore>(alloc, 4, frame)?;
+        let read = due::<AuthReplyMore>(alloc, tag::AUTH_REPLY_MORE, frame)?;
         on_reply_more(alloc, mon_client, at, link, callee, presenting, read)
     }
 }

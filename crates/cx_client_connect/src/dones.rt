@@ -20,7 +20,7 @@ use cx_control::{AuthBadMethod, AuthDone};
 use cx_frame::Frame;
 use cx_holdings::MonClient;
 use cx_journal::{BytesFault, LoginFault, Reason};
-use cx_link::PlainLink;
+use cx_link::{PlainLink, tag};
 use cx_node::{Moment, NoRow, NodeRow, due, goes_on_unchanged, payload_part};
 use std::alloc::Global;
 
@@ -36,11 +36,11 @@ pub(crate) fn while_answered(
 ) -> Result<NodeRow<Link, Change>, NoRow>
     ensures { Makes mon_client.now at.now (awaiting_done at.now.number link callee answering) (λ a. while_answered a callee answering frame.now) result }
 {
-    if frame.tag == 3 {
+    if frame.tag == tag::AUTH_BAD_METHOD {
         let read = payload_part::<AuthBadMethod>(alloc, frame)?;
         on_bad_method(mon_client, at, read)
     } else {
-        let read = due::<AuthDone>(alloc, 6, frame)?;
+        let read = due::<AuthDone>(alloc, tag::AUTH_DONE, frame)?;
         on_done(alloc, mon_client, at, link, callee, answering, read)
     }
 }

@@ -10,7 +10,7 @@ use cx_base::Blob;
 use cx_control::{AuthRequest, AuthRequestMore};
 use cx_holdings::MonClient;
 use cx_journal::BytesFault;
-use cx_link::PlainLink;
+use cx_link::{PlainLink, tag};
 use cx_node::{SentPlain, send_plain};
 use std::alloc::{AllocError, Global};
 
@@ -35,7 +35,7 @@ pub(crate) fn send_request(
         modes: mon_client.modes(alloc)?,
         payload: authorizer,
     };
-    send_plain(alloc, link, 2, &request)
+    send_plain(alloc, link, tag::AUTH_REQUEST, &request)
 }
 
 // Sends AUTH_REQUEST_MORE with an authorizer.
@@ -53,5 +53,5 @@ pub(crate) fn send_more(
     let more = AuthRequestMore {
         payload: authorizer,
     };
-    send_plain(alloc, link, 5, &more)
+    send_plain(alloc, link, tag::AUTH_REQUEST_MORE, &more)
 }

@@ -19,7 +19,7 @@ use cx_authorize::{Answering, Presenting};
 use cx_base::Items;
 use cx_control::Hello;
 use cx_holdings::MonClient;
-use cx_link::{BannerLink, BannerTurn, LinkTurn, PlainLink};
+use cx_link::{BannerLink, BannerTurn, LinkTurn, PlainLink, tag};
 use cx_node::{Came, Moment, due};
 use std::alloc::{AllocError, Global};
 
@@ -63,7 +63,7 @@ pub fn hello_turn(
         ))),
         LinkTurn::Refuses(why) => Ok(Came::Refuses(why, Items::new(alloc))),
         LinkTurn::Takes(link, frame) => {
-            let hello = due::<Hello>(alloc, 1, &frame)?;
+            let hello = due::<Hello>(alloc, tag::HELLO, &frame)?;
             let made = on_hello(alloc, mon_client, at, link, called, hello);
             handles(alloc, mon_client, at, Items::new(alloc), made)
         }

@@ -13,7 +13,7 @@ use cx_base::Items;
 use cx_client_connect::{Callee, Change, HeldSession, Link, Stage, handles};
 use cx_control::AuthSignature;
 use cx_holdings::MonClient;
-use cx_link::{LinkTurn, SecureLink, Signing};
+use cx_link::{LinkTurn, SecureLink, Signing, tag};
 use cx_node::{Came, Moment, due};
 use std::alloc::{AllocError, Global};
 
@@ -39,7 +39,7 @@ pub fn signature_turn(
         ))),
         LinkTurn::Refuses(why) => Ok(Came::Refuses(why, opened)),
         LinkTurn::Takes(signing, frame) => {
-            let found = due::<AuthSignature>(alloc, 7, &frame)?;
+            let found = due::<AuthSignature>(alloc, tag::AUTH_SIGNATURE, &frame)?;
             let made = on_signature(
                 alloc, mon_client, global_seq, session, at, signing, callee, found,
             );

@@ -17,7 +17,7 @@ use cx_control::{IdentMissingFeatures, ServerIdent};
 use cx_frame::Frame;
 use cx_holdings::MonClient;
 use cx_journal::{BytesFault, Reason};
-use cx_link::SecureLink;
+use cx_link::{SecureLink, tag};
 use cx_node::{
     Moment, NoRow, NodeRow, Row, due, entered_before, payload, refused_entry, send_secure,
 };
@@ -40,7 +40,7 @@ pub(crate) fn identifies(
     let mut drawn = before;
     drawn.push(alloc, SealEntry::Drawn(DrawMark::Cookie(cookie)))?;
     let ident = mon_client.client_ident(held_gid(mon_client), lossy_flags(callee.lossy), cookie);
-    let made = send_secure(alloc, link, 8, &ident)?;
+    let made = send_secure(alloc, link, tag::CLIENT_IDENT, &ident)?;
     let row = sent_row(
         alloc,
         mon_client,
@@ -96,11 +96,11 @@ pub(crate) fn while_identified(
     ensures { (session : Option HeldSession)
         → MakesFor (caller mon_client.now session) at.now (awaiting_ident at.now.number link callee cookie) (λ a. while_identified a (keys_alone link.keys) callee cookie frame.now) result }
 {
-    if frame.tag == 10 {
+    if frame.tag == tag::IDENT_MISSING_FEATURES {
         let read = payload::<IdentMissingFeatures>(alloc, frame)?;
         on_missing_features(mon_client, at, read)
     } else {
-        let read = due::<ServerIdent>(alloc, 9, frame)?;
+        let read = due::<ServerIdent>(alloc, tag::SERVER_IDENT, frame)?;
         on_server_ident(alloc, mon_client, at, link, callee, cookie, read)
     }
 }

@@ -16,12 +16,9 @@ use cx_control::Ack;
 use cx_frame::Frame;
 use cx_holdings::MonClient;
 use cx_journal::{Answered, BytesFault, Entry};
-use cx_link::SecureLink;
+use cx_link::{SecureLink, tag};
 use cx_node::{Moment, NoRow, NodeRow, goes_on_unchanged, is_keepalive, payload, upkept};
 use std::alloc::{AllocError, Global};
-
-/// The tag of ACK.
-const ACK: u8 = 20;
 
 // A keepalive is answered as ever; any other frame has to be an acknowledgement or an answer.
 pub(crate) fn on_open(
@@ -73,7 +70,7 @@ fn on_answer_or_ack(
     ensures { (session : Option HeldSession) → MakesFor (caller mon_client.now session) at.now (open_link at.now.number link callee cookie)
         (λ a. on_answer_or_ack a (keys_alone link.keys) callee cookie frame.now) result }
 {
-    if frame.tag == ACK {
+    if frame.tag == tag::ACK {
         let read = payload::<Ack>(alloc, frame)?;
         on_ack(alloc, mon_client, at, link, callee, cookie, read)
     } else {

@@ -23,7 +23,7 @@ use cx_control::{
 use cx_frame::Frame;
 use cx_holdings::MonClient;
 use cx_journal::BytesFault;
-use cx_link::SecureLink;
+use cx_link::{SecureLink, tag};
 use cx_node::{Moment, NoRow, NodeRow, Row, goes_on_unchanged, payload, send_secure};
 use cx_steps::SealEntry;
 use std::alloc::{AllocError, Global};
@@ -49,7 +49,7 @@ fn reconnects(
 {
     let cookie = session.client_cookie();
     let reconnect = session_reconnect(mon_client, global_seq, session, connect_seq);
-    let made = send_secure(alloc, link, 11, &reconnect)?;
+    let made = send_secure(alloc, link, tag::SESSION_RECONNECT, &reconnect)?;
     let row = sent_row(
         alloc,
         mon_client,
@@ -166,18 +166,18 @@ pub(crate) fn while_reconnecting(
     ensures { MakesFor (caller mon_client.now (option_copied session.entry)) at.now (awaiting_reconnect at.now.number link callee cookie)
         (λ a. while_reconnecting a (keys_alone link.keys) callee cookie frame.now) result }
 {
-    if frame.tag == 15 {
+    if frame.tag == tag::SESSION_RECONNECT_OK {
         let read = payload::<SessionReconnectOk>(alloc, frame)?;
         on_reconnect_ok(alloc, mon_client, session, at, link, callee, cookie, read)
-    } else if frame.tag == 12 {
+    } else if frame.tag == tag::SESSION_RESET {
         let read = payload::<SessionReset>(alloc, frame)?;
         on_reset(alloc, mon_client, at, link, callee, read)
-    } else if frame.tag == 13 {
+    } else if frame.tag == tag::SESSION_RETRY {
         let read = payload::<SessionRetry>(alloc, frame)?;
         on_retry(
             alloc, mon_client, global_seq, session, at, link, callee, read,
         )
-    } else if frame.tag == 14 {
+    } else if frame.tag == tag::SESSION_RETRY_GLOBAL {
         let read = payload::<SessionRetryGlobal>(alloc, frame)?;
         on_retry_global(alloc, mon_client, session, at, link, callee, read)
     } else {

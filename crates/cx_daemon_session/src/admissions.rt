@@ -23,7 +23,7 @@ use cx_base::Items;
 use cx_control::{ClientIdent, ServerIdent};
 use cx_holdings::MonClient;
 use cx_journal::{Entry, Reason, SessionFault};
-use cx_link::SecureLink;
+use cx_link::{SecureLink, tag};
 use cx_node::{
     Came, Moment, NoRow, NodeRow, goes_on_unchanged, refuses, send_secure, unless_refused,
 };
@@ -155,7 +155,7 @@ fn sends_ident(
         flags: lossy_flags(served.lossy),
         cookie: at.draw.cookie(),
     };
-    let sent = send_secure(alloc, link, 9, &ident)??;
+    let sent = send_secure(alloc, link, tag::SERVER_IDENT, &ident)??;
     let link = Link::new(at.number, Stage::Open(sent.link, served));
     Ok(goes_on_unchanged(alloc, link, sent.bytes, sent.seals))
 }

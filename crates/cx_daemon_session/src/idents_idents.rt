@@ -18,7 +18,7 @@ use cx_control::{ClientIdent, IdentMissingFeatures, SessionReconnect};
 use cx_frame::Frame;
 use cx_holdings::MonClient;
 use cx_journal::{BytesFault, Reason};
-use cx_link::{LinkTurn, SecureLink};
+use cx_link::{LinkTurn, SecureLink, tag};
 use cx_node::{Came, Moment, NoRow, NodeRow, Row, payload, refuses, send_secure};
 use cx_session::BookCall;
 use cx_steps::SealEntry;
@@ -62,10 +62,10 @@ fn on_ident(
         (on_ident (ident_arrival mon_client.now at.now link owner) (keys_alone link.keys) owner frame.now)) }
     ensures stays { (old : IncomingLink) → old.number ≡ at.now.number → IfOk result (StaysOn old) }
 {
-    if frame.tag == 8 {
+    if frame.tag == tag::CLIENT_IDENT {
         let read = payload::<ClientIdent>(alloc, frame)?;
         on_client_ident(alloc, mon_client, at, link, owner, opened, read)
-    } else if frame.tag == 11 {
+    } else if frame.tag == tag::SESSION_RECONNECT {
         let read = payload::<SessionReconnect>(alloc, frame)?;
         on_reconnect(alloc, mon_client, at, link, owner, opened, read)
     } else {
@@ -146,7 +146,12 @@ fn misses(
 ) -> Result<NodeRow<Link, ()>, NoRow>
     ensures { (owner : Authority) → Makes mon_client.now at.now (awaiting_ident at.now.number link owner) (λ a. misses a (keys_alone link.keys) features) result }
 {
-    let sent = send_secure(alloc, link, 10, &IdentMissingFeatures { features })??;
+    let sent = send_secure(
+        alloc,
+        link,
+        tag::IDENT_MISSING_FEATURES,
+        &IdentMissingFeatures { features },
+    )??;
     let me = mon_client.node_name(alloc)?;
     let why = Reason::Bytes(BytesFault::Features(features));
     let refusal = refuses(alloc, &me, at.number, why, sent.seals)?;

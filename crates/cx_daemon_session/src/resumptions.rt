@@ -28,7 +28,7 @@ use cx_control::{
 };
 use cx_holdings::MonClient;
 use cx_journal::{BytesFault, Entry, Reason, SessionFault};
-use cx_link::{SecureLink, SentFrame};
+use cx_link::{SecureLink, SentFrame, tag};
 use cx_node::{Came, Moment, NoRow, NodeRow, goes_on_unchanged, refused_entry, send_secure};
 use cx_session::{BookCall, BookFault, BookReply};
 use cx_steps::SealEntry;
@@ -137,7 +137,12 @@ fn opens(
     ensures { (owner : Authority) → Makes mon_client.now at.now (awaiting_ident at.now.number link owner)
         (λ a. sends_secure a (keys_alone link.keys) (λ behind. Open behind served) [] (reconnect_ok last)) result }
 {
-    let sent = send_secure(alloc, link, 15, &SessionReconnectOk { seq: last })??;
+    let sent = send_secure(
+        alloc,
+        link,
+        tag::SESSION_RECONNECT_OK,
+        &SessionReconnectOk { seq: last },
+    )??;
     let link = Link::new(at.number, Stage::Open(sent.link, served));
     Ok(goes_on_unchanged(alloc, link, sent.bytes, sent.seals))
 }
@@ -227,7 +232,12 @@ fn resets(
     ensures { IfOk result (IsCome mon_client.now at.now.number opened
         (tells_why (ident_arrival mon_client.now at.now link owner) (keys_alone link.keys) owner why session_reset)) }
 {
-    let sent = send_secure(alloc, link, 12, &SessionReset { full: true })?;
+    let sent = send_secure(
+        alloc,
+        link,
+        tag::SESSION_RESET,
+        &SessionReset { full: true },
+    )?;
     tells(alloc, mon_client, at, owner, opened, why, sent)
 }
 
@@ -245,7 +255,12 @@ fn retries(
         (tells_why (ident_arrival mon_client.now at.now link owner) (keys_alone link.keys) owner (reason.Session (session.StaleConnect kept)) (session_retry kept))) }
 {
     let why = Reason::Session(SessionFault::StaleConnect(kept));
-    let sent = send_secure(alloc, link, 13, &SessionRetry { connect_seq: kept })?;
+    let sent = send_secure(
+        alloc,
+        link,
+        tag::SESSION_RETRY,
+        &SessionRetry { connect_seq: kept },
+    )?;
     tells(alloc, mon_client, at, owner, opened, why, sent)
 }
 
@@ -263,7 +278,12 @@ fn retries_global(
         (tells_why (ident_arrival mon_client.now at.now link owner) (keys_alone link.keys) owner (reason.Session (session.StaleGlobal kept)) (session_retry_global kept))) }
 {
     let why = Reason::Session(SessionFault::StaleGlobal(kept));
-    let sent = send_secure(alloc, link, 14, &SessionRetryGlobal { global_seq: kept })?;
+    let sent = send_secure(
+        alloc,
+        link,
+        tag::SESSION_RETRY_GLOBAL,
+        &SessionRetryGlobal { global_seq: kept },
+    )?;
     tells(alloc, mon_client, at, owner, opened, why, sent)
 }
 

@@ -2,12 +2,14 @@
 #![tactic(auto)]
 
 mod banner;
+pub mod code;
 mod links;
 mod plain;
 mod refusals;
 mod secure;
 mod sending;
 mod signing;
+pub mod tag;
 mod turns;
 
 pub use links::{BannerLink, Checked, Finished, PlainLink, SecureLink, SentFrame, Signing};

@@ -15,6 +15,7 @@ use crate::links::{Checked, Finished, PlainLink, SecureLink, SentFrame, Signing}
 use crate::refusals::LinkRefusal;
 use crate::sending::plain_bytes;
 use crate::turns::LinkTurn;
+use crate::{tag, tag};
 use cx_base::{Blob, Items};
 use cx_control::{AuthSignature, put_auth_signature};
 use cx_digest::{SigningKey, mac};
@@ -22,9 +23,6 @@ use cx_frame::{Frame, Segment};
 use cx_journal::KeyKind;
 use cx_steps::{SealEntry, SealMark};
 use std::alloc::{AllocError, Global};
-
-/// The tag of AUTH_SIGNATURE.
-const AUTH_SIGNATURE: u8 = 7;
 
 impl SecureLink {
     /// Seals AUTH_SIGNATURE, which covers these bytes that were received, under the session key. That it is signed is logged first.
@@ -185,7 +183,7 @@ fn signature_frame(alloc: Global, code: &[u8; 32]) -> Result<Frame, AllocError>
     let mut segments = Items::new(alloc);
     segments.push(alloc, Segment { align: 8, bytes })?;
     Ok(Frame {
-        tag: AUTH_SIGNATURE,
+        tag: tag::AUTH_SIGNATURE,
         segments,
     })
 }

@@ -15,7 +15,7 @@ use crate::own::{KeyChange, Own};
 use cx_base::{Addr, Blob, EntityType, Items, NodeName};
 use cx_control::Hello;
 use cx_journal::{BytesFault, Reason};
-use cx_link::{BannerLink, PlainLink, own_banner};
+use cx_link::{BannerLink, PlainLink, own_banner, tag};
 use cx_node::{Moment, NoRow, NodeRow, Row, goes_on_unchanged, refuses, send_plain};
 use std::alloc::{AllocError, Global};
 
@@ -63,7 +63,7 @@ pub(crate) fn on_banner(
         kind: EntityType::Mon,
         addr: nothing_said,
     };
-    let sent = send_plain(alloc, link, 1, &hello)??;
+    let sent = send_plain(alloc, link, tag::HELLO, &hello)??;
     let link = Link::new(alloc, at.number, Stage::AwaitsHello(sent.link))?;
     Ok(goes_on_unchanged(alloc, link, sent.bytes, Items::new(alloc)))
 }

@@ -14,7 +14,7 @@ use cx_base::NodeName;
 use cx_control::{ClientIdent, IdentMissingFeatures, ServerIdent, SessionReconnect, SessionReset};
 use cx_frame::Frame;
 use cx_journal::{BytesFault, Reason};
-use cx_link::SecureLink;
+use cx_link::{SecureLink, tag};
 use cx_node::{Moment, NoRow, NodeRow, Row, goes_on_unchanged, payload, refuses, send_secure};
 use cx_rules::Bearer;
 use std::alloc::Global;
@@ -31,11 +31,11 @@ pub(crate) fn on_ident(
     ensures { Makes own.now at.now (awaiting_ident at.now.number link bearer) (λ a. on_ident a (keys_alone link.keys) bearer frame.now) result }
 {
     match frame.tag {
-        8 => {
+        tag::CLIENT_IDENT => {
             let read = payload::<ClientIdent>(alloc, frame)?;
             on_client_ident(alloc, own, at, link, bearer, read)
         }
-        11 => {
+        tag::SESSION_RECONNECT => {
             let read = payload::<SessionReconnect>(alloc, frame)?;
             on_session_reconnect(alloc, own, at, link, bearer, read)
         }
@@ -82,7 +82,7 @@ fn opens_to(
         flags: 1,
         cookie: 0,
     };
-    let sent = send_secure(alloc, link, 9, &ident)??;
+    let sent = send_secure(alloc, link, tag::SERVER_IDENT, &ident)??;
     let link = Link::new(alloc, at.number, Stage::Open(sent.link, bearer))?;
     Ok(goes_on_unchanged(alloc, link, sent.bytes, sent.seals))
 }
@@ -98,7 +98,12 @@ fn misses(
 ) -> Result<NodeRow<Link, KeyChange>, NoRow>
     ensures { Makes own.now at.now (awaiting_ident at.now.number link bearer) (λ a. misses a (keys_alone link.keys) features) result }
 {
-    let sent = send_secure(alloc, link, 10, &IdentMissingFeatures { features })??;
+    let sent = send_secure(
+        alloc,
+        link,
+        tag::IDENT_MISSING_FEATURES,
+        &IdentMissingFeatures { features },
+    )??;
     let why = Reason::Bytes(BytesFault::Features(features));
     let refusal = refuses(alloc, &NodeName::Monitor, at.number, why, sent.seals)?;
     Ok(NodeRow::keeping(Row {
@@ -119,7 +124,12 @@ pub(crate) fn on_session_reconnect(
     ensures { Makes own.now at.now (awaiting_ident at.now.number link bearer) (λ a. on_session_reconnect a (keys_alone link.keys) bearer read) result }
 {
     let _ = read?;
-    let sent = send_secure(alloc, link, 12, &SessionReset { full: true })??;
+    let sent = send_secure(
+        alloc,
+        link,
+        tag::SESSION_RESET,
+        &SessionReset { full: true },
+    )??;
     let link = Link::new(alloc, at.number, Stage::AwaitsIdent(sent.link, bearer))?;
     Ok(goes_on_unchanged(alloc, link, sent.bytes, sent.seals))
 }

@@ -23,7 +23,7 @@ use cx_control::{AuthReplyMore, AuthRequestMore};
 use cx_enc::{Key, write_whole};
 use cx_frame::{Frame, Segment};
 use cx_journal::{BytesFault, LoginFault};
-use cx_link::{Finished, LinkRefusal, PlainLink};
+use cx_link::{Finished, LinkRefusal, PlainLink, code, tag};
 use cx_login::{Offered, Proved};
 use cx_mon_grants::{HandedOut, Occasion, Verdict, log_in};
 use cx_node::{
@@ -63,7 +63,12 @@ fn challenges(
 {
     match key {
         Some(key) => offers(alloc, own, at, link, hello, key),
-        None => Ok(denies(alloc, at, 13, LoginFault::UnknownEntity)?),
+        None => Ok(denies(
+            alloc,
+            at,
+            code::PERMISSION_DENIED,
+            LoginFault::UnknownEntity,
+        )?),
     }
 }
 
@@ -118,7 +123,12 @@ fn send_challenge(
     ensures { IfOk result (SendsPlain link (plain_frame (challenge_frame challenge))) }
 {
     let payload = write_whole(alloc, &ServerChallenge { challenge })?;
-    send_plain(alloc, link, 4, &AuthReplyMore { payload })
+    send_plain(
+        alloc,
+        link,
+        tag::AUTH_REPLY_MORE,
+        &AuthReplyMore { payload },
+    )
 }
 
 // AUTH_REQUEST_MORE holds an Authenticate.
@@ -157,7 +167,7 @@ pub(crate) fn on_authenticate(
     let ask = read?;
     match offered.prove(ask) {
         Ok(proved) => logs_in(alloc, own, at, link, &proved, gid),
-        Err(_) => Ok(denies(alloc, at, 13, LoginFault::WrongProof)?),
+        Err(_) => Ok(denies(alloc, at, code::PERMISSION_DENIED, LoginFault::WrongProof)?),
     }
 }
 
@@ -228,7 +238,7 @@ fn told(
             alloc,
             &NodeName::Monitor,
             at.number,
-            13,
+            code::PERMISSION_DENIED,
             why,
             seals,
         ),
@@ -302,5 +312,8 @@ fn done_frame(alloc: Global, payload: &Blob) -> Result<Frame, AllocError>
     let bytes = payload.copy(alloc)?;
     let mut segments = Items::new(alloc);
     segments.push(alloc, Segment { align: 8, bytes })?;
-    Ok(Frame { tag: 6, segments })
+    Ok(Frame {
+        tag: tag::AUTH_DONE,
+        segments,
+    })
 }

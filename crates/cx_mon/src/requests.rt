@@ -13,7 +13,7 @@ use crate::making::denies;
 use crate::own::{KeyChange, Own};
 use cx_control::AuthRequest;
 use cx_journal::{BytesFault, LoginFault};
-use cx_link::PlainLink;
+use cx_link::{PlainLink, code};
 use cx_node::{Moment, NoRow, NodeRow, whole};
 use cx_wire::LoginHello;
 use std::alloc::Global;
@@ -30,9 +30,9 @@ pub(crate) fn on_auth_request(
 {
     let request = read?;
     if request.method != 2 {
-        Ok(denies(alloc, at, 95, LoginFault::Method)?)
+        Ok(denies(alloc, at, code::NOT_SUPPORTED, LoginFault::Method)?)
     } else if !offers_secure(request.modes.all()) {
-        Ok(denies(alloc, at, 95, LoginFault::Mode)?)
+        Ok(denies(alloc, at, code::NOT_SUPPORTED, LoginFault::Mode)?)
     } else {
         let hello = whole::<LoginHello>(alloc, request.payload.bytes())?;
         on_login_hello(alloc, own, at, link, hello)

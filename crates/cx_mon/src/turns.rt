@@ -17,7 +17,7 @@ use crate::signatures::on_signature;
 use crate::upkeep::on_open;
 use cx_base::{Items, NodeName};
 use cx_control::{AuthRequest, AuthRequestMore, AuthSignature, Hello};
-use cx_link::{BannerLink, BannerTurn, LinkTurn, PlainLink, SecureLink, Signing};
+use cx_link::{BannerLink, BannerTurn, LinkTurn, PlainLink, SecureLink, Signing, tag};
 use cx_login::Offered;
 use cx_node::{Came, Moment, due, handles};
 use cx_rules::Bearer;
@@ -104,7 +104,7 @@ fn hello_turn(
         }
         LinkTurn::Refuses(why) => Ok(Came::Refuses(why, Items::new(alloc))),
         LinkTurn::Takes(link, frame) => {
-            let hello = due::<Hello>(alloc, 1, &frame)?;
+            let hello = due::<Hello>(alloc, tag::HELLO, &frame)?;
             let made = on_hello(alloc, own, at, link, hello);
             handles(
                 alloc,
@@ -132,7 +132,7 @@ fn request_turn(
         }
         LinkTurn::Refuses(why) => Ok(Came::Refuses(why, Items::new(alloc))),
         LinkTurn::Takes(link, frame) => {
-            let request = due::<AuthRequest>(alloc, 2, &frame)?;
+            let request = due::<AuthRequest>(alloc, tag::AUTH_REQUEST, &frame)?;
             let made = on_auth_request(alloc, own, at, link, request);
             handles(
                 alloc,
@@ -164,7 +164,7 @@ fn proof_turn(
         }
         LinkTurn::Refuses(why) => Ok(Came::Refuses(why, Items::new(alloc))),
         LinkTurn::Takes(link, frame) => {
-            let more = due::<AuthRequestMore>(alloc, 5, &frame)?;
+            let more = due::<AuthRequestMore>(alloc, tag::AUTH_REQUEST_MORE, &frame)?;
             let made = on_auth_request_more(alloc, own, at, link, offered, gid, more);
             handles(
                 alloc,
@@ -194,7 +194,7 @@ fn signature_turn(
         }
         LinkTurn::Refuses(why) => Ok(Came::Refuses(why, opened)),
         LinkTurn::Takes(signing, frame) => {
-            let found = due::<AuthSignature>(alloc, 7, &frame)?;
+            let found = due::<AuthSignature>(alloc, tag::AUTH_SIGNATURE, &frame)?;
             let made = on_signature(alloc, own, at, signing, bearer, found);
             handles(alloc, &NodeName::Monitor, at.number, opened, made)
         }

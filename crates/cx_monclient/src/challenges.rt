@@ -20,7 +20,7 @@ use cx_control::{AuthBadMethod, AuthReplyMore, AuthRequestMore};
 use cx_frame::Frame;
 use cx_holdings::{Answer, MonClient};
 use cx_journal::{BytesFault, KeyKind};
-use cx_link::PlainLink;
+use cx_link::{PlainLink, tag};
 use cx_node::{
     Moment, NoRow, NodeRow, SentPlain, due, goes_on_unchanged, payload_part, send_plain,
 };
@@ -41,11 +41,11 @@ pub(crate) fn while_challenged(
 ) -> Result<NodeRow<Link, BoxedChange>, NoRow>
     ensures { Makes mon_client.now at.now (wired at.now.number link (AwaitsChallenge asked)) (λ a. while_challenged a asked frame.now) result }
 {
-    if frame.tag == 3 {
+    if frame.tag == tag::AUTH_BAD_METHOD {
         let read = payload_part::<AuthBadMethod>(alloc, frame)?;
         on_bad_method(alloc, mon_client, at, read)
     } else {
-        let read = due::<AuthReplyMore>(alloc, 4, frame)?;
+        let read = due::<AuthReplyMore>(alloc, tag::AUTH_REPLY_MORE, frame)?;
         on_reply_more(alloc, mon_client, at, link, asked, read)
     }
 }

@@ -37,7 +37,7 @@ fn on_denial(
     ensures { (wire : Wire) (stage : Stage) → Makes mon_client.now at.now (wired at.now.number wire stage) (λ a. on_denial a code) result }
 {
     let why = Reason::Denied(code);
-    if code != 13 {
+    if code != cx_link::code::PERMISSION_DENIED {
         return Err(NoRow::Refused(why));
     }
     let me = named(alloc, mon_client)?;

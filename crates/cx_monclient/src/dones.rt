@@ -17,7 +17,7 @@ use cx_control::{AuthBadMethod, AuthDone};
 use cx_frame::Frame;
 use cx_holdings::{Login, MonClient};
 use cx_journal::{BytesFault, LoginFault, Reason};
-use cx_link::PlainLink;
+use cx_link::{PlainLink, tag};
 use cx_login::LoggedIn;
 use cx_node::{Moment, NoRow, NodeRow, due, goes_on_unchanged, payload_part};
 use std::alloc::Global;
@@ -32,11 +32,11 @@ pub(crate) fn while_proved(
 ) -> Result<NodeRow<Link, BoxedChange>, NoRow>
     ensures { Makes mon_client.now at.now (wired at.now.number link AwaitsDone) (λ a. while_proved a frame.now) result }
 {
-    if frame.tag == 3 {
+    if frame.tag == tag::AUTH_BAD_METHOD {
         let read = payload_part::<AuthBadMethod>(alloc, frame)?;
         on_bad_method(alloc, mon_client, at, read)
     } else {
-        let read = due::<AuthDone>(alloc, 6, frame)?;
+        let read = due::<AuthDone>(alloc, tag::AUTH_DONE, frame)?;
         on_done(alloc, mon_client, at, link, read)
     }
 }

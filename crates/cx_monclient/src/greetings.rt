@@ -12,7 +12,7 @@ use cx_base::Items;
 use cx_control::Hello;
 use cx_holdings::MonClient;
 use cx_journal::BytesFault;
-use cx_link::PlainLink;
+use cx_link::{PlainLink, tag};
 use cx_node::{
     Moment, NoRow, NodeRow, Row, goes_on_unchanged, send_banner, send_hello, send_plain,
 };
@@ -68,7 +68,7 @@ fn requests(
     ensures { Makes mon_client.now at.now (wired at.now.number link (AwaitsHello asked)) (λ a. sends_plain a (AwaitsChallenge asked) [] (login_request mon_client.now)) result }
 {
     let request = mon_client.login_request(alloc)?;
-    let sent = send_plain(alloc, link, 2, &request)??;
+    let sent = send_plain(alloc, link, tag::AUTH_REQUEST, &request)??;
     let link = Link::new(alloc, at.number, Stage::AwaitsChallenge(sent.link, asked))?;
     Ok(goes_on_unchanged(alloc, link, sent.bytes, Items::new(alloc)))
 }

@@ -19,7 +19,7 @@ use cx_control::{IdentMissingFeatures, ServerIdent};
 use cx_frame::Frame;
 use cx_holdings::MonClient;
 use cx_journal::BytesFault;
-use cx_link::SecureLink;
+use cx_link::{SecureLink, tag};
 use cx_node::{Moment, NoRow, NodeRow, due, goes_on_unchanged, payload};
 use std::alloc::Global;
 
@@ -34,11 +34,11 @@ pub(crate) fn while_identified(
 ) -> Result<NodeRow<Link, BoxedChange>, NoRow>
     ensures { Makes mon_client.now at.now (awaiting_ident at.now.number link session) (λ a. while_identified a (keys_alone link.keys) session frame.now) result }
 {
-    if frame.tag == 10 {
+    if frame.tag == tag::IDENT_MISSING_FEATURES {
         let read = payload::<IdentMissingFeatures>(alloc, frame)?;
         on_missing_features(mon_client, at, read)
     } else {
-        let read = due::<ServerIdent>(alloc, 9, frame)?;
+        let read = due::<ServerIdent>(alloc, tag::SERVER_IDENT, frame)?;
         on_server_ident(alloc, mon_client, at, link, session, read)
     }
 }

@@ -20,7 +20,7 @@ use crate::signatures::on_signature;
 use cx_base::Items;
 use cx_control::{AuthSignature, Hello};
 use cx_holdings::{Login, MonClient};
-use cx_link::{BannerLink, BannerTurn, LinkTurn, PlainLink, SecureLink, Signing};
+use cx_link::{BannerLink, BannerTurn, LinkTurn, PlainLink, SecureLink, Signing, tag};
 use cx_node::{Came, Moment, due};
 use std::alloc::{AllocError, Global};
 
@@ -99,7 +99,7 @@ fn hello_turn(
         }
         LinkTurn::Refuses(why) => Ok(Came::Refuses(why, Items::new(alloc))),
         LinkTurn::Takes(link, frame) => {
-            let hello = due::<Hello>(alloc, 1, &frame)?;
+            let hello = due::<Hello>(alloc, tag::HELLO, &frame)?;
             let made = on_hello(alloc, mon_client, at, link, asked, hello);
             handles(alloc, mon_client, at, Items::new(alloc), made)
         }
@@ -166,7 +166,7 @@ fn signature_turn(
         }
         LinkTurn::Refuses(why) => Ok(Came::Refuses(why, opened)),
         LinkTurn::Takes(signing, frame) => {
-            let found = due::<AuthSignature>(alloc, 7, &frame)?;
+            let found = due::<AuthSignature>(alloc, tag::AUTH_SIGNATURE, &frame)?;
             let made = on_signature(alloc, mon_client, at, signing, login, found);
             handles(alloc, mon_client, at, opened, made)
         }

@@ -9,6 +9,7 @@ use cx_base::{Blob, Items};
 use cx_control::{AuthBadMethod, WritesWhole};
 use cx_enc::Encoded;
 use cx_frame::{Frame, FrameRefusal, Segment, put_frame};
+use cx_link::tag;
 use std::alloc::{AllocError, Global};
 
 /// The control frame of a tag with this payload: its one segment, aligned to 8.
@@ -46,7 +47,7 @@ pub fn bad_method(alloc: Global, code: u32) -> Result<Frame, AllocError>
 {
     control_whole(
         alloc,
-        3,
+        tag::AUTH_BAD_METHOD,
         &AuthBadMethod {
             method: 2,
             result: code,

@@ -6,11 +6,9 @@ ghost use Rattle.cx_node.specs.cx_rules.specs.Messages.{message};
 
 use cx_base::{Blob, Items};
 use cx_frame::{Frame, Segment};
+use cx_link::tag;
 use cx_wire::{Header, put_header};
 use std::alloc::{AllocError, Global};
-
-/// The tag of MESSAGE.
-const MESSAGE: u8 = 17;
 
 /// The frame of a message: its header, and its body behind it, each aligned to 8.
 #[tactic(auto, using(crate::proofs::messages::Announcing::announced))]
@@ -38,7 +36,7 @@ fn framed(alloc: Global, header: &Header, body: Blob) -> Result<Frame, AllocErro
         },
     )?;
     Ok(Frame {
-        tag: MESSAGE,
+        tag: tag::MESSAGE,
         segments,
     })
 }

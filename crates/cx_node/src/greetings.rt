@@ -10,7 +10,7 @@ use crate::steps_sending::{SentPlain, send_plain};
 use cx_base::{Addr, Blob, EntityType};
 use cx_control::Hello;
 use cx_journal::BytesFault;
-use cx_link::{BannerLink, PlainLink, own_banner};
+use cx_link::{BannerLink, PlainLink, own_banner, tag};
 use std::alloc::{AllocError, Global};
 
 // An address of which nothing is said.
@@ -49,5 +49,5 @@ pub fn send_hello(
         kind,
         addr: NO_ADDR,
     };
-    send_plain(alloc, link, 1, &hello)
+    send_plain(alloc, link, tag::HELLO, &hello)
 }

@@ -13,6 +13,7 @@ use cx_base::{Blob, Items};
 use cx_control::Ack;
 use cx_frame::Frame;
 use cx_journal::BytesFault;
+use cx_link::tag;
 use cx_wire::Header;
 use std::alloc::{AllocError, Global};
 
@@ -38,7 +39,7 @@ pub fn send_acknowledgement(
 ) -> Result<Result<SentFrame, BytesFault>, AllocError>
     ensures { IfOk result (SendsSecure link (secure_frame link.keys (acknowledgement seq))) }
 {
-    send_secure(alloc, link, 20, &Ack { seq })
+    send_secure(alloc, link, tag::ACK, &Ack { seq })
 }
 
 /// Sends these frames in one piece, in their order, or says why one of them can't be written: then none is sent, and the link is given up.

@@ -12,17 +12,15 @@ use crate::{Body, whole_part};
 use cx_base::Blob;
 use cx_frame::{Frame, Segment};
 use cx_journal::BytesFault;
+use cx_link::tag;
 use cx_wire::{BodyRefusal, Header, Reply, Request, read_reply, read_request};
 use std::alloc::{AllocError, Global};
-
-/// The tag of MESSAGE.
-const MESSAGE: u8 = 17;
 
 /// The header of the message of a frame, or why the frame holds none. What stands in it behind the header and the body is looked at too.
 pub fn header_in(alloc: Global, frame: &Frame) -> Result<Result<Header, BytesFault>, AllocError>
     ensures { IfOk result (λ read. message_in frame.now ≡ with_body (body_in frame.now) read) }
 {
-    if frame.tag == MESSAGE {
+    if frame.tag == tag::MESSAGE {
         header_of(alloc, frame.segments.all())
     } else {
         Ok(Err(BytesFault::Unexpected(frame.tag)))
@@ -45,7 +43,7 @@ fn header_of(alloc: Global, segments: &[Segment]) -> Result<Result<Header, Bytes
 {
     match segments {
         [header, _, more @ ..] => header_before(alloc, header.bytes.bytes(), more),
-        _ => Ok(Err(BytesFault::Unexpected(MESSAGE))),
+        _ => Ok(Err(BytesFault::Unexpected(tag::MESSAGE))),
     }
 }
 

@@ -14,14 +14,14 @@ use cx_control::{Keepalive2, Keepalive2Ack};
 use cx_enc::{ReadRefusal, encoding_laws, read_whole};
 use cx_frame::Frame;
 use cx_journal::BytesFault;
-use cx_link::{SecureLink, SentFrame};
+use cx_link::{SecureLink, SentFrame, tag};
 use std::alloc::{AllocError, Global};
 
 /// Whether a frame keeps an open link alive: KEEPALIVE2 or KEEPALIVE2_ACK.
 pub fn is_keepalive(frame: &Frame) -> bool
     ensures { result ≡ is_keepalive frame.now }
 {
-    frame.tag == 18 || frame.tag == 19
+    frame.tag == tag::KEEPALIVE2 || frame.tag == tag::KEEPALIVE2_ACK
 }
 
 /// What comes of a frame on an open link: the link as it goes on, with what is sent on it and logged of that, or why it is shut. No other
@@ -34,11 +34,11 @@ pub fn upkept(
     ensures { IfOk result (SendsSecure link (upkept link.keys frame.now)) }
 {
     match frame.tag {
-        18 => {
+        tag::KEEPALIVE2 => {
             let read = keepalive_of(alloc, frame)?;
             answered(alloc, link, read)
         }
-        19 => {
+        tag::KEEPALIVE2_ACK => {
             let read = payload::<Keepalive2Ack>(alloc, frame)?;
             Ok(acknowledged(alloc, link, read))
         }
@@ -85,7 +85,7 @@ fn answered(
             let ack = Keepalive2Ack {
                 time: keepalive.time,
             };
-            send_secure(alloc, link, 19, &ack)
+            send_secure(alloc, link, tag::KEEPALIVE2_ACK, &ack)
         }
     }
 }

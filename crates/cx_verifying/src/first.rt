@@ -17,7 +17,7 @@ use cx_authorize::{First, FirstPassed};
 use cx_base::Items;
 use cx_control::AuthReplyMore;
 use cx_holdings::MonClient;
-use cx_link::PlainLink;
+use cx_link::{PlainLink, tag};
 use cx_node::{Moment, NoRow, NodeRow, goes_on_unchanged, send_plain, unless_refused};
 use cx_steps::{DrawMark, SealEntry};
 use std::alloc::Global;
@@ -100,7 +100,12 @@ fn awaits_proof(
         bytes,
         sealed,
     } = passed;
-    let sent = send_plain(alloc, link, 4, &AuthReplyMore { payload: bytes })??;
+    let sent = send_plain(
+        alloc,
+        link,
+        tag::AUTH_REPLY_MORE,
+        &AuthReplyMore { payload: bytes },
+    )??;
     let mut seals = Items::new(alloc);
     seals.push(alloc, sealed)?;
     let link = Link::new(at.number, Stage::AwaitsProof(sent.link, awaiting));

@@ -16,6 +16,7 @@ use cx_authorize::{AuthFault, AuthRefusal};
 use cx_base::{Duplicate, Items};
 use cx_holdings::MonClient;
 use cx_journal::{BytesFault, Entry, Looked, Reason, TicketFault};
+use cx_link::code;
 use cx_node::{Moment, NoRow, NodeRow, denies_for, entered_before, unless_refused};
 use cx_steps::SealEntry;
 use std::alloc::{AllocError, Global};
@@ -103,7 +104,14 @@ fn denies(
     ensures { (wire : Wire) (stage : IncomingStage) → Makes mon_client.now at.now (wired at.now.number wire stage) (λ a. denies_for a 13 why []) result }
 {
     let me = mon_client.node_name(alloc)?;
-    let row = denies_for(alloc, &me, at.number, 13, why, Items::new(alloc))?;
+    let row = denies_for(
+        alloc,
+        &me,
+        at.number,
+        code::PERMISSION_DENIED,
+        why,
+        Items::new(alloc),
+    )?;
     Ok(NodeRow::keeping(row))
 }
 

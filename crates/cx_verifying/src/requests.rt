@@ -15,7 +15,7 @@ use cx_base::Items;
 use cx_control::{AuthRequest, AuthRequestMore};
 use cx_holdings::MonClient;
 use cx_journal::{BytesFault, LoginFault};
-use cx_link::PlainLink;
+use cx_link::{PlainLink, code};
 use cx_node::{Moment, NoRow, NodeRow, request_fault};
 use std::alloc::Global;
 
@@ -46,7 +46,14 @@ fn denies(
     ensures { (wire : Wire) (stage : IncomingStage) → Makes mon_client.now at.now (wired at.now.number wire stage) (λ a. denies a 95 why []) result }
 {
     let me = mon_client.node_name(alloc)?;
-    let row = cx_node::denies(alloc, &me, at.number, 95, why, Items::new(alloc))?;
+    let row = cx_node::denies(
+        alloc,
+        &me,
+        at.number,
+        code::NOT_SUPPORTED,
+        why,
+        Items::new(alloc),
+    )?;
     Ok(NodeRow::keeping(row))
 }
 

@@ -23,7 +23,7 @@ use cx_authorize::{Authorized, Awaiting, SecondPassed};
 use cx_base::{Duplicate, Items, Owner};
 use cx_control::AuthDone;
 use cx_holdings::MonClient;
-use cx_link::{Finished, PlainLink};
+use cx_link::{Finished, PlainLink, tag};
 use cx_node::{Moment, NoRow, NodeRow, control, goes_on_unchanged, unless_refused};
 use cx_steps::{DrawMark, SealEntry};
 use std::alloc::{AllocError, Global};
@@ -127,7 +127,7 @@ fn finishes(
         mode: 2,
         payload: bytes,
     };
-    let frame = control(alloc, 6, &done)?;
+    let frame = control(alloc, tag::AUTH_DONE, &done)?;
     let finished = link.finish(alloc, &session, &at.draw.connection_secret(), &frame)?;
     let row = awaits_signature(alloc, at, authorized, sealed, finished)?;
     Ok(row)

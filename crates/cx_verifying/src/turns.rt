@@ -19,7 +19,7 @@ use cx_authorize::Awaiting;
 use cx_base::Items;
 use cx_control::{AuthRequest, AuthRequestMore, AuthSignature, Hello};
 use cx_holdings::MonClient;
-use cx_link::{BannerLink, BannerTurn, LinkTurn, PlainLink, SecureLink, Signing};
+use cx_link::{BannerLink, BannerTurn, LinkTurn, PlainLink, SecureLink, Signing, tag};
 use cx_node::{Came, Moment, NoRow, NodeRow, due};
 use cx_steps::SealEntry;
 use std::alloc::{AllocError, Global};
@@ -120,7 +120,7 @@ fn hello_turn(
         LinkTurn::Waits(link) => Ok(Came::Waits(Link::new(at.number, Stage::AwaitsHello(link)))),
         LinkTurn::Refuses(why) => Ok(Came::Refuses(why, Items::new(alloc))),
         LinkTurn::Takes(link, frame) => {
-            let hello = due::<Hello>(alloc, 1, &frame)?;
+            let hello = due::<Hello>(alloc, tag::HELLO, &frame)?;
             let made = on_hello(alloc, mon_client, at, link, hello);
             handles(alloc, mon_client, at, Items::new(alloc), made)
         }
@@ -139,7 +139,7 @@ fn request_turn(
         LinkTurn::Waits(link) => Ok(Came::Waits(Link::new(at.number, Stage::AwaitsRequest(link)))),
         LinkTurn::Refuses(why) => Ok(Came::Refuses(why, Items::new(alloc))),
         LinkTurn::Takes(link, frame) => {
-            let request = due::<AuthRequest>(alloc, 2, &frame)?;
+            let request = due::<AuthRequest>(alloc, tag::AUTH_REQUEST, &frame)?;
             let made = on_auth_request(alloc, mon_client, at, link, request);
             handles(alloc, mon_client, at, Items::new(alloc), made)
         }
@@ -162,7 +162,7 @@ fn proof_turn(
         ))),
         LinkTurn::Refuses(why) => Ok(Came::Refuses(why, Items::new(alloc))),
         LinkTurn::Takes(link, frame) => {
-            let more = due::<AuthRequestMore>(alloc, 5, &frame)?;
+            let more = due::<AuthRequestMore>(alloc, tag::AUTH_REQUEST_MORE, &frame)?;
             let made = on_auth_request_more(alloc, mon_client, at, link, awaiting, more);
             handles(alloc, mon_client, at, Items::new(alloc), made)
         }
@@ -186,7 +186,7 @@ fn signature_turn(
         ))),
         LinkTurn::Refuses(why) => Ok(Came::Refuses(why, opened)),
         LinkTurn::Takes(signing, frame) => {
-            let found = due::<AuthSignature>(alloc, 7, &frame)?;
+            let found = due::<AuthSignature>(alloc, tag::AUTH_SIGNATURE, &frame)?;
             let made = on_signature(alloc, mon_client, at, signing, owner, found);
             handles(alloc, mon_client, at, opened, made)
         }
