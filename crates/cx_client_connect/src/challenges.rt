@@ -116,7 +116,11 @@ fn answers(
     let sent = send_more(alloc, link, bytes)??;
     let mut seals = Items::new(alloc);
     seals.push(alloc, sealed)?;
-    let link = Link::new(at.number, Stage::AwaitsDone(sent.link, callee, answering));
+    let link = Link::new(
+        alloc,
+        at.number,
+        Stage::AwaitsDone(sent.link, callee, answering),
+    )?;
     Ok(goes_on_unchanged(alloc, link, sent.bytes, seals))
 }
 

@@ -113,6 +113,10 @@ fn signs(
         (λ a. signs a callee (record { session = agreed.session; nonce = nonce }) [] (signed_frame (connector_keys agreed.secret) agreed.session (take link.taken link.received))) result }
 {
     let finished = link.sign(alloc, &agreed.session, &agreed.secret)?;
-    let link = Link::new(at.number, Stage::AwaitsSignature(finished.signing, callee));
+    let link = Link::new(
+        alloc,
+        at.number,
+        Stage::AwaitsSignature(finished.signing, callee),
+    )?;
     Ok(goes_on_unchanged(alloc, link, finished.bytes, finished.seals))
 }

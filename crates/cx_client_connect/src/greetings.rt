@@ -54,7 +54,7 @@ pub fn greeting(alloc: Global, number: u32, called: Called) -> Result<Row<Link>,
     ensures { IfOk result (λ row. row ≡ opening_row number called) }
 {
     let sent = send_banner(alloc)?;
-    let link = Link::new(number, Stage::AwaitsBanner(sent.link, called));
+    let link = Link::new(alloc, number, Stage::AwaitsBanner(sent.link, called))?;
     Ok(cx_node::goes_on(alloc, link, sent.bytes, Items::new(alloc)))
 }
 
@@ -70,7 +70,7 @@ pub(crate) fn on_banner(
 {
     let name = mon_client.name();
     let sent = send_hello(alloc, link, name.kind)??;
-    let link = Link::new(at.number, Stage::AwaitsHello(sent.link, called));
+    let link = Link::new(alloc, at.number, Stage::AwaitsHello(sent.link, called))?;
     Ok(goes_on_unchanged(alloc, link, sent.bytes, Items::new(alloc)))
 }
 
@@ -162,8 +162,9 @@ fn awaits_challenge(
     let mut seals = Items::new(alloc);
     seals.push(alloc, sealed)?;
     let link = Link::new(
+        alloc,
         at.number,
         Stage::AwaitsChallenge(sent.link, callee, presenting),
-    );
+    )?;
     Ok(goes_on_unchanged(alloc, link, sent.bytes, seals))
 }

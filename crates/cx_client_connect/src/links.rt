@@ -78,11 +78,11 @@ impl Stage {
     }
 }
 
-/// A live link to a daemon.
+/// A live link to a daemon. Its stage is boxed: a link goes by value from call to call, and a stage has all that came on it.
 #[derive(Drop)]
 pub struct Link {
     pub number: u32,
-    pub stage: Stage,
+    pub stage: Box<Stage>,
 }
 
 impl Model for Link {
@@ -93,7 +93,7 @@ impl Model for Link {
 
     ghost use Rattle.cx_client_connect.specs.presenting.Stages.{link_held};
 
-    ghost view = { λ l. link_held l.number l.stage };
+    ghost view = { λ l. link_held l.number l.stage.value };
 }
 
 impl Numbered for Link {
@@ -106,15 +106,16 @@ impl Numbered for Link {
 }
 
 impl Link {
-    ghost use Rattle.std.specs.Prelude.{◌≡◌};
+    ghost use Rattle.std.specs.Prelude.{◌≡◌, IfOk};
     ghost use Rattle.cx_client_connect.specs.cx_rules_session.specs.Presenter.{callee_of, is_open};
     ghost use Rattle.cx_client_connect.specs.presenting.Stages.{link_held};
 
-    /// The link of this number, in a stage.
-    pub fn new(number: u32, stage: Stage) -> Link
-        ensures { result ≡ link_held number stage }
+    /// The link of this number, in a stage. Where memory is wanting it is given up.
+    pub fn new(alloc: Global, number: u32, stage: Stage) -> Result<Link, AllocError>
+        ensures { IfOk result (λ link. link ≡ link_held number stage) }
     {
-        Link { number, stage }
+        let stage = Box::new(alloc, stage)?;
+        Ok(Link { number, stage })
     }
 
     /// Whom it calls.

@@ -34,10 +34,10 @@ pub fn banner_turn(
     ensures { (session : Option HeldSession) → IfOk result (IsCallTurn (caller mon_client.now session) at.now (wired at.now.number link (AwaitsBanner called))) }
 {
     match link.turn() {
-        BannerTurn::Waits(link) => Ok(Came::Waits(Link::new(
-            at.number,
-            Stage::AwaitsBanner(link, called),
-        ))),
+        BannerTurn::Waits(link) => {
+            let link = Link::new(alloc, at.number, Stage::AwaitsBanner(link, called))?;
+            Ok(Came::Waits(link))
+        }
         BannerTurn::Refuses(why) => Ok(Came::Refuses(why, Items::new(alloc))),
         BannerTurn::Takes(link) => {
             let made = on_banner(alloc, mon_client, at, link, called);
@@ -57,10 +57,10 @@ pub fn hello_turn(
     ensures { (session : Option HeldSession) → IfOk result (IsCallTurn (caller mon_client.now session) at.now (wired at.now.number link (AwaitsHello called))) }
 {
     match link.turn(alloc)? {
-        LinkTurn::Waits(link) => Ok(Came::Waits(Link::new(
-            at.number,
-            Stage::AwaitsHello(link, called),
-        ))),
+        LinkTurn::Waits(link) => {
+            let link = Link::new(alloc, at.number, Stage::AwaitsHello(link, called))?;
+            Ok(Came::Waits(link))
+        }
         LinkTurn::Refuses(why) => Ok(Came::Refuses(why, Items::new(alloc))),
         LinkTurn::Takes(link, frame) => {
             let hello = due::<Hello>(alloc, tag::HELLO, &frame)?;
@@ -82,10 +82,14 @@ pub fn challenge_turn(
     ensures { (session : Option HeldSession) → IfOk result (IsCallTurn (caller mon_client.now session) at.now (awaiting_challenge at.now.number link callee presenting)) }
 {
     match link.turn(alloc)? {
-        LinkTurn::Waits(link) => Ok(Came::Waits(Link::new(
-            at.number,
-            Stage::AwaitsChallenge(link, callee, presenting),
-        ))),
+        LinkTurn::Waits(link) => {
+            let link = Link::new(
+                alloc,
+                at.number,
+                Stage::AwaitsChallenge(link, callee, presenting),
+            )?;
+            Ok(Came::Waits(link))
+        }
         LinkTurn::Refuses(why) => Ok(Came::Refuses(why, Items::new(alloc))),
         LinkTurn::Takes(link, frame) => {
             let made = while_challenged(alloc, mon_client, at, link, callee, presenting, &frame);
@@ -106,10 +110,10 @@ pub fn done_turn(
     ensures { (session : Option HeldSession) → IfOk result (IsCallTurn (caller mon_client.now session) at.now (awaiting_done at.now.number link callee answering)) }
 {
     match link.turn(alloc)? {
-        LinkTurn::Waits(link) => Ok(Came::Waits(Link::new(
-            at.number,
-            Stage::AwaitsDone(link, callee, answering),
-        ))),
+        LinkTurn::Waits(link) => {
+            let link = Link::new(alloc, at.number, Stage::AwaitsDone(link, callee, answering))?;
+            Ok(Came::Waits(link))
+        }
         LinkTurn::Refuses(why) => Ok(Came::Refuses(why, Items::new(alloc))),
         LinkTurn::Takes(link, frame) => {
             let made = while_answered(alloc, mon_client, at, link, callee, answering, &frame);

@@ -33,10 +33,10 @@ pub fn signature_turn(
 {
     let mut opened = Items::new(alloc);
     match signing.turn(alloc, &mut opened)? {
-        LinkTurn::Waits(signing) => Ok(Came::Waits(Link::new(
-            at.number,
-            Stage::AwaitsSignature(signing, callee),
-        ))),
+        LinkTurn::Waits(signing) => {
+            let link = Link::new(alloc, at.number, Stage::AwaitsSignature(signing, callee))?;
+            Ok(Came::Waits(link))
+        }
         LinkTurn::Refuses(why) => Ok(Came::Refuses(why, opened)),
         LinkTurn::Takes(signing, frame) => {
             let found = due::<AuthSignature>(alloc, tag::AUTH_SIGNATURE, &frame)?;
@@ -61,10 +61,10 @@ pub fn ident_turn(
 {
     let mut opened = Items::new(alloc);
     match link.turn(alloc, &mut opened)? {
-        LinkTurn::Waits(link) => Ok(Came::Waits(Link::new(
-            at.number,
-            Stage::AwaitsIdent(link, callee, cookie),
-        ))),
+        LinkTurn::Waits(link) => {
+            let link = Link::new(alloc, at.number, Stage::AwaitsIdent(link, callee, cookie))?;
+            Ok(Came::Waits(link))
+        }
         LinkTurn::Refuses(why) => Ok(Came::Refuses(why, opened)),
         LinkTurn::Takes(link, frame) => {
             let made = while_identified(alloc, mon_client, at, link, callee, cookie, &frame);
@@ -89,10 +89,14 @@ pub fn reconnect_turn(
 {
     let mut opened = Items::new(alloc);
     match link.turn(alloc, &mut opened)? {
-        LinkTurn::Waits(link) => Ok(Came::Waits(Link::new(
-            at.number,
-            Stage::AwaitsReconnect(link, callee, cookie),
-        ))),
+        LinkTurn::Waits(link) => {
+            let link = Link::new(
+                alloc,
+                at.number,
+                Stage::AwaitsReconnect(link, callee, cookie),
+            )?;
+            Ok(Came::Waits(link))
+        }
         LinkTurn::Refuses(why) => Ok(Came::Refuses(why, opened)),
         LinkTurn::Takes(link, frame) => {
             let made = while_reconnecting(

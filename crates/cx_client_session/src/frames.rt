@@ -41,7 +41,7 @@ pub fn sent_row(
         Ok(sent) => {
             let mut seals = before;
             seals.append(alloc, sent.seals)?;
-            let link = link_ahead(at.number, sent.link, ahead, callee, cookie);
+            let link = link_ahead(alloc, at.number, sent.link, ahead, callee, cookie)?;
             Ok(goes_on(alloc, link, sent.bytes, seals))
         }
         Err(why) => {
@@ -52,12 +52,19 @@ pub fn sent_row(
 }
 
 // The link of this number, which waits for that.
-fn link_ahead(number: u32, link: SecureLink, ahead: Ahead, callee: Callee, cookie: u64) -> Link
-    ensures { result ≡ link_ahead number link ahead callee cookie }
+fn link_ahead(
+    alloc: Global,
+    number: u32,
+    link: SecureLink,
+    ahead: Ahead,
+    callee: Callee,
+    cookie: u64,
+) -> Result<Link, AllocError>
+    ensures { IfOk result (λ made. made ≡ link_ahead number link ahead callee cookie) }
 {
     match ahead {
-        Ahead::Ident => Link::new(number, Stage::AwaitsIdent(link, callee, cookie)),
-        Ahead::Reconnect => Link::new(number, Stage::AwaitsReconnect(link, callee, cookie)),
-        Ahead::Open => Link::new(number, Stage::Open(link, callee, cookie)),
+        Ahead::Ident => Link::new(alloc, number, Stage::AwaitsIdent(link, callee, cookie)),
+        Ahead::Reconnect => Link::new(alloc, number, Stage::AwaitsReconnect(link, callee, cookie)),
+        Ahead::Open => Link::new(alloc, number, Stage::Open(link, callee, cookie)),
     }
 }

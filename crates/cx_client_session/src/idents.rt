@@ -133,7 +133,7 @@ fn on_server_ident(
 {
     let ident = read?;
     let session = HeldSession::new(alloc, &callee, cookie, ident.cookie)?;
-    let link = Link::new(at.number, Stage::Open(link, callee, cookie));
+    let link = Link::new(alloc, at.number, Stage::Open(link, callee, cookie))?;
     let row = cx_node::goes_on(alloc, link, Blob::new(alloc), Items::new(alloc));
     Ok(NodeRow {
         row,

@@ -54,7 +54,7 @@ fn stays_open(
         (λ a. secure_sent a (keys_alone link.keys) (λ behind. Open behind callee cookie) [] (upkept link.keys frame.now)) result }
 {
     let sent = upkept(alloc, link, frame)??;
-    let link = Link::new(at.number, Stage::Open(sent.link, callee, cookie));
+    let link = Link::new(alloc, at.number, Stage::Open(sent.link, callee, cookie))?;
     Ok(goes_on_unchanged(alloc, link, sent.bytes, sent.seals))
 }
 
@@ -93,7 +93,7 @@ fn on_ack(
         (λ a. on_ack a (keys_alone link.keys) callee cookie read) result }
 {
     let ack = read?;
-    let link = Link::new(at.number, Stage::Open(link, callee, cookie));
+    let link = Link::new(alloc, at.number, Stage::Open(link, callee, cookie))?;
     let row = cx_node::goes_on(alloc, link, Blob::new(alloc), Items::new(alloc));
     Ok(NodeRow {
         row,
@@ -118,7 +118,7 @@ fn on_answer(
     let mut entries = Items::new(alloc);
     let entry = answered_entry(alloc, mon_client, &callee, cookie, &end)?;
     entries.push(alloc, entry)?;
-    let link = Link::new(at.number, Stage::Open(link, callee, cookie));
+    let link = Link::new(alloc, at.number, Stage::Open(link, callee, cookie))?;
     let mut row = cx_node::goes_on(alloc, link, Blob::new(alloc), Items::new(alloc));
     row.entries = entries;
     Ok(NodeRow::keeping(row))

@@ -32,7 +32,14 @@ pub fn turned(
     ensures { IfOk result (IsCallTurn (caller mon_client.now (option_copied session.entry)) at.now link) }
 {
     let Link { number: _, stage } = link;
-    by_stage(alloc, mon_client, global_seq, session, at, stage)
+    by_stage(
+        alloc,
+        mon_client,
+        global_seq,
+        session,
+        at,
+        Box::into_inner(stage),
+    )
 }
 
 // The turn of a link in this stage.
@@ -85,10 +92,10 @@ fn open_turn(
 {
     let mut opened = Items::new(alloc);
     match link.turn(alloc, &mut opened)? {
-        LinkTurn::Waits(link) => Ok(Came::Waits(Link::new(
-            at.number,
-            Stage::Open(link, callee, cookie),
-        ))),
+        LinkTurn::Waits(link) => {
+            let link = Link::new(alloc, at.number, Stage::Open(link, callee, cookie))?;
+            Ok(Came::Waits(link))
+        }
         LinkTurn::Refuses(why) => Ok(Came::Refuses(why, opened)),
         LinkTurn::Takes(link, frame) => {
             let made = on_open(alloc, mon_client, at, link, callee, cookie, &frame);

@@ -206,7 +206,7 @@ fn on_reconnect_ok(
             Ok(row)
         }
         None => {
-            let link = Link::new(at.number, Stage::Open(link, callee, cookie));
+            let link = Link::new(alloc, at.number, Stage::Open(link, callee, cookie))?;
             Ok(goes_on_unchanged(alloc, link, Blob::new(alloc), Items::new(alloc)))
         }
     }

@@ -33,7 +33,7 @@ pub fn sends(
     requires writable { IsWritable operation.now }
     ensures { IfOk result (IsSent mon_client.now at.now link.now (number, operation.now)) }
 {
-    match &link.stage {
+    match link.stage.as_ref() {
         Stage::Open(secure, callee, cookie) => {
             let secure = secure.copy(alloc)?;
             let callee = callee.copy(alloc)?;

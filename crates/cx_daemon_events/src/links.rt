@@ -79,7 +79,7 @@ impl Link {
         ensures { result ≡ regard_at self.now.stage }
     {
         match &self.kind {
-            Kind::Incoming(link) => regard_incoming(&link.stage),
+            Kind::Incoming(link) => regard_incoming(link.stage.as_ref()),
             Kind::Own(link) => {
                 if link.is_quiet() {
                     Regard::Known

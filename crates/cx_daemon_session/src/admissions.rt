@@ -156,7 +156,7 @@ fn sends_ident(
         cookie: at.draw.cookie(),
     };
     let sent = send_secure(alloc, link, tag::SERVER_IDENT, &ident)??;
-    let link = Link::new(at.number, Stage::Open(sent.link, served));
+    let link = Link::new(alloc, at.number, Stage::Open(sent.link, served))?;
     Ok(goes_on_unchanged(alloc, link, sent.bytes, sent.seals))
 }
 

@@ -156,6 +156,6 @@ fn sends(
         (λ a. secure_sent a (keys_alone link.keys) (λ behind. Open behind served) [] (secure_frames link.keys (answering tid outcome answer ∷ acknowledgement seq ∷ []))) result }
 {
     let sent = send_answer(alloc, link, seq, tid, outcome, answer)??;
-    let link = Link::new(at.number, Stage::Open(sent.link, served));
+    let link = Link::new(alloc, at.number, Stage::Open(sent.link, served))?;
     Ok(goes_on_unchanged(alloc, link, sent.bytes, sent.seals))
 }

@@ -38,7 +38,7 @@ pub fn ident_turn(
     let mut opened = Items::new(alloc);
     match link.turn(alloc, &mut opened)? {
         LinkTurn::Waits(link) => {
-            let link = Link::new(at.number, Stage::AwaitsIdent(link, owner));
+            let link = Link::new(alloc, at.number, Stage::AwaitsIdent(link, owner))?;
             Ok(IdentTurn::Done(Came::Waits(link)))
         }
         LinkTurn::Refuses(why) => Ok(IdentTurn::Done(Came::Refuses(why, opened))),

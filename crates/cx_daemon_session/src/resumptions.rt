@@ -143,7 +143,7 @@ fn opens(
         tag::SESSION_RECONNECT_OK,
         &SessionReconnectOk { seq: last },
     )??;
-    let link = Link::new(at.number, Stage::Open(sent.link, served));
+    let link = Link::new(alloc, at.number, Stage::Open(sent.link, served))?;
     Ok(goes_on_unchanged(alloc, link, sent.bytes, sent.seals))
 }
 
@@ -319,6 +319,6 @@ fn stays(
         → Makes mon_client.now at.now (awaiting_ident at.now.number link owner) (λ a. sends_secure a (keys_alone link.keys) (λ behind. AwaitsIdent behind owner) [] f) result }
 {
     let sent = sent?;
-    let link = Link::new(at.number, Stage::AwaitsIdent(sent.link, owner));
+    let link = Link::new(alloc, at.number, Stage::AwaitsIdent(sent.link, owner))?;
     Ok(goes_on_unchanged(alloc, link, sent.bytes, sent.seals))
 }

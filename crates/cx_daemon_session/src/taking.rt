@@ -151,6 +151,6 @@ fn acknowledges(
         (λ a. sends_secure a (keys_alone link.keys) (λ behind. Open behind served) [] (acknowledgement last)) result }
 {
     let sent = send_acknowledgement(alloc, link, last)??;
-    let link = Link::new(at.number, Stage::Open(sent.link, served));
+    let link = Link::new(alloc, at.number, Stage::Open(sent.link, served))?;
     Ok(goes_on_unchanged(alloc, link, sent.bytes, sent.seals))
 }

@@ -37,7 +37,7 @@ pub fn open_turn(
     let mut opened = Items::new(alloc);
     match link.turn(alloc, &mut opened)? {
         LinkTurn::Waits(link) => {
-            let link = Link::new(at.number, Stage::Open(link, served));
+            let link = Link::new(alloc, at.number, Stage::Open(link, served))?;
             Ok(OpenTurn::Done(Came::Waits(link)))
         }
         LinkTurn::Refuses(why) => Ok(OpenTurn::Done(Came::Refuses(why, opened))),
@@ -83,7 +83,7 @@ fn stays_open(
         (λ a. secure_sent a (keys_alone link.keys) (λ behind. Open behind served) [] (upkept link.keys frame.now)) result }
 {
     let sent = upkept(alloc, link, frame)??;
-    let link = Link::new(at.number, Stage::Open(sent.link, served));
+    let link = Link::new(alloc, at.number, Stage::Open(sent.link, served))?;
     Ok(goes_on_unchanged(alloc, link, sent.bytes, sent.seals))
 }
 

@@ -108,6 +108,6 @@ fn awaits_proof(
     )??;
     let mut seals = Items::new(alloc);
     seals.push(alloc, sealed)?;
-    let link = Link::new(at.number, Stage::AwaitsProof(sent.link, awaiting));
+    let link = Link::new(alloc, at.number, Stage::AwaitsProof(sent.link, awaiting))?;
     Ok(goes_on_unchanged(alloc, link, sent.bytes, seals))
 }

@@ -34,7 +34,7 @@ pub fn greeting(
         return refuses(alloc, &me, at.number, Reason::LinksFull, seals);
     }
     let sent = send_banner(alloc)?;
-    let link = Link::new(at.number, Stage::AwaitsBanner(sent.link));
+    let link = Link::new(alloc, at.number, Stage::AwaitsBanner(sent.link))?;
     Ok(cx_node::goes_on(alloc, link, sent.bytes, seals))
 }
 
@@ -49,7 +49,7 @@ pub(crate) fn on_banner(
 {
     let name = mon_client.name();
     let sent = send_hello(alloc, link, name.kind)??;
-    let link = Link::new(at.number, Stage::AwaitsHello(sent.link));
+    let link = Link::new(alloc, at.number, Stage::AwaitsHello(sent.link))?;
     Ok(goes_on_unchanged(alloc, link, sent.bytes, Items::new(alloc)))
 }
 
@@ -63,6 +63,6 @@ pub(crate) fn on_hello(
     ensures { Makes mon_client.now at.now (wired at.now.number link AwaitsHello) (λ a. on_hello a read) result }
 {
     let _ = read?;
-    let link = Link::new(at.number, Stage::AwaitsRequest(link));
+    let link = Link::new(alloc, at.number, Stage::AwaitsRequest(link))?;
     Ok(goes_on_unchanged(alloc, link, Blob::new(alloc), Items::new(alloc)))
 }

@@ -42,15 +42,15 @@ impl Stage {
     }
 }
 
-/// A live incoming link.
+/// A live incoming link. Its stage is boxed: a link goes by value from call to call, and a stage has all that came on it.
 #[derive(Drop)]
 pub struct Link {
     pub number: u32,
-    pub stage: Stage,
+    pub stage: Box<Stage>,
 }
 
 impl Link {
-    ghost use Rattle.std.specs.Prelude.{◌≡◌};
+    ghost use Rattle.std.specs.Prelude.{◌≡◌, IfOk};
     ghost use Rattle.cx_rules_session.specs.DaemonRule.{AsAcceptor, is_in};
     ghost use Rattle.cx_verifying.specs.Stages.{link_held, lossy_session};
 
@@ -58,7 +58,7 @@ impl Link {
     pub fn is_in(&self, session: u64) -> bool
         ensures { result ≡ is_in session (AsAcceptor self.now.stage) }
     {
-        match &self.stage {
+        match self.stage.as_ref() {
             Stage::AwaitsBanner(_) => false,
             Stage::AwaitsHello(_) => false,
             Stage::AwaitsRequest(_) => false,
@@ -73,7 +73,7 @@ impl Link {
     pub fn lossy_session(&self) -> Option<u64>
         ensures { result ≡ lossy_session self.now.stage }
     {
-        match &self.stage {
+        match self.stage.as_ref() {
             Stage::AwaitsBanner(_) => None,
             Stage::AwaitsHello(_) => None,
             Stage::AwaitsRequest(_) => None,
@@ -84,11 +84,12 @@ impl Link {
         }
     }
 
-    /// The link of this number, in a stage.
-    pub fn new(number: u32, stage: Stage) -> Link
-        ensures { result ≡ link_held number stage }
+    /// The link of this number, in a stage. Where memory is wanting it is given up.
+    pub fn new(alloc: Global, number: u32, stage: Stage) -> Result<Link, AllocError>
+        ensures { IfOk result (λ link. link ≡ link_held number stage) }
     {
-        Link { number, stage }
+        let stage = Box::new(alloc, stage)?;
+        Ok(Link { number, stage })
     }
 }
 
@@ -100,7 +101,7 @@ impl Model for Link {
 
     ghost use Rattle.cx_verifying.specs.Stages.{link_held};
 
-    ghost view = { λ l. link_held l.number l.stage };
+    ghost view = { λ l. link_held l.number l.stage.value };
 }
 
 impl Numbered for Link {

@@ -147,6 +147,10 @@ fn awaits_signature(
     let mut seals = Items::new(alloc);
     seals.push(alloc, sealed)?;
     seals.append(alloc, finished.seals)?;
-    let link = Link::new(at.number, Stage::AwaitsSignature(finished.signing, owner));
+    let link = Link::new(
+        alloc,
+        at.number,
+        Stage::AwaitsSignature(finished.signing, owner),
+    )?;
     Ok(goes_on_unchanged(alloc, link, finished.bytes, seals))
 }

@@ -29,6 +29,6 @@ pub(crate) fn on_signature(
     let found = checked(signing, read)?;
     let mut seals = Items::new(alloc);
     seals.push(alloc, found.entry)?;
-    let link = Link::new(at.number, Stage::AwaitsIdent(found.link, owner));
+    let link = Link::new(alloc, at.number, Stage::AwaitsIdent(found.link, owner))?;
     Ok(goes_on_unchanged(alloc, link, Blob::new(alloc), seals))
 }

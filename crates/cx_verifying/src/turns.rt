@@ -43,7 +43,7 @@ pub fn turned(
     ensures { (handlers : Handlers) → IfOk result (IsTurnedBy handlers mon_client.now at.now link) }
 {
     let Link { number: _, stage } = link;
-    by_stage(alloc, mon_client, at, stage)
+    by_stage(alloc, mon_client, at, Box::into_inner(stage))
 }
 
 // The turn of a link in this stage.
@@ -99,7 +99,10 @@ fn banner_turn(
     ensures { (handlers : Handlers) → IfOk result (IsIncomingTurn handlers mon_client.now at.now (wired at.now.number link AwaitsBanner)) }
 {
     match link.turn() {
-        BannerTurn::Waits(link) => Ok(Came::Waits(Link::new(at.number, Stage::AwaitsBanner(link)))),
+        BannerTurn::Waits(link) => {
+            let link = Link::new(alloc, at.number, Stage::AwaitsBanner(link))?;
+            Ok(Came::Waits(link))
+        }
         BannerTurn::Refuses(why) => Ok(Came::Refuses(why, Items::new(alloc))),
         BannerTurn::Takes(link) => {
             let made = on_banner(alloc, mon_client, at, link);
@@ -117,7 +120,10 @@ fn hello_turn(
     ensures { (handlers : Handlers) → IfOk result (IsIncomingTurn handlers mon_client.now at.now (wired at.now.number link AwaitsHello)) }
 {
     match link.turn(alloc)? {
-        LinkTurn::Waits(link) => Ok(Came::Waits(Link::new(at.number, Stage::AwaitsHello(link)))),
+        LinkTurn::Waits(link) => {
+            let link = Link::new(alloc, at.number, Stage::AwaitsHello(link))?;
+            Ok(Came::Waits(link))
+        }
         LinkTurn::Refuses(why) => Ok(Came::Refuses(why, Items::new(alloc))),
         LinkTurn::Takes(link, frame) => {
             let hello = due::<Hello>(alloc, tag::HELLO, &frame)?;
@@ -136,7 +142,10 @@ fn request_turn(
     ensures { (handlers : Handlers) → IfOk result (IsIncomingTurn handlers mon_client.now at.now (wired at.now.number link AwaitsRequest)) }
 {
     match link.turn(alloc)? {
-        LinkTurn::Waits(link) => Ok(Came::Waits(Link::new(at.number, Stage::AwaitsRequest(link)))),
+        LinkTurn::Waits(link) => {
+            let link = Link::new(alloc, at.number, Stage::AwaitsRequest(link))?;
+            Ok(Came::Waits(link))
+        }
         LinkTurn::Refuses(why) => Ok(Came::Refuses(why, Items::new(alloc))),
         LinkTurn::Takes(link, frame) => {
             let request = due::<AuthRequest>(alloc, tag::AUTH_REQUEST, &frame)?;
@@ -156,10 +165,10 @@ fn proof_turn(
     ensures { (handlers : Handlers) → IfOk result (IsIncomingTurn handlers mon_client.now at.now (awaiting_proof at.now.number link awaiting)) }
 {
     match link.turn(alloc)? {
-        LinkTurn::Waits(link) => Ok(Came::Waits(Link::new(
-            at.number,
-            Stage::AwaitsProof(link, awaiting),
-        ))),
+        LinkTurn::Waits(link) => {
+            let link = Link::new(alloc, at.number, Stage::AwaitsProof(link, awaiting))?;
+            Ok(Came::Waits(link))
+        }
         LinkTurn::Refuses(why) => Ok(Came::Refuses(why, Items::new(alloc))),
         LinkTurn::Takes(link, frame) => {
             let more = due::<AuthRequestMore>(alloc, tag::AUTH_REQUEST_MORE, &frame)?;
@@ -180,10 +189,10 @@ fn signature_turn(
 {
     let mut opened = Items::new(alloc);
     match signing.turn(alloc, &mut opened)? {
-        LinkTurn::Waits(signing) => Ok(Came::Waits(Link::new(
-            at.number,
-            Stage::AwaitsSignature(signing, owner),
-        ))),
+        LinkTurn::Waits(signing) => {
+            let link = Link::new(alloc, at.number, Stage::AwaitsSignature(signing, owner))?;
+            Ok(Came::Waits(link))
+        }
         LinkTurn::Refuses(why) => Ok(Came::Refuses(why, opened)),
         LinkTurn::Takes(signing, frame) => {
             let found = due::<AuthSignature>(alloc, tag::AUTH_SIGNATURE, &frame)?;

@@ -7,5 +7,5 @@ use Rattle.cx_client_session.proofs.operations_turns.turned.Goals as goal
 pub returns : goal.returns
 returns c =
     let number : c.link.inside.number ≡ c.args.at.now.number =
-    sym (number_held c.link.inside.number c.link.inside.stage) ∙ ap (λ (l : CallLink). l.number) c.link.view_is ∙ c.requires.number in
-    rw (← c.link.view_is, number) c.by_stage.ensures
+    sym (number_held c.link.inside.number c.link.inside.stage.value) ∙ ap (λ (l : CallLink). l.number) c.link.view_is ∙ c.requires.number in
+    rw (← c.link.view_is, number) (rw c.into_inner.ensures at c.by_stage.ensures)
