@@ -4,10 +4,10 @@
 
 use cx_base::{Access, Blob};
 use cx_caps::Permitted;
-use cx_commands::{CommandEnd, CommandStatus, Status, run};
+use cx_commands::{CommandEnd, CommandStatus, Status, run, start_told};
 use cx_desk::Desk;
 use cx_edge::{Input, Output};
-use cx_tcp::{FolderKeeper, SystemClock, SystemDice, TcpLinks};
+use cx_tcp::{FolderKeeper, RingNotes, SystemClock, SystemDice, TcpLinks};
 use std::alloc::{AllocError, Global};
 use std::process::ExitCode;
 use std::{env, io};
@@ -62,7 +62,8 @@ fn serve(rt: &HostRuntime, words: &[String]) -> Result<CommandEnd, AllocError> {
     desk.set(Access::Exec, Box::new(rt.alloc(), exec)?);
     let mut input = Input::new(rt.stdin());
     let mut output = Output::new(rt.stdout());
-    let mut keeper = FolderKeeper::new(rt);
+    let keyring = Blob::new(rt.alloc());
+    let mut keeper = FolderKeeper::with_notes(rt, StartNotes { keyring });
     let mut links = TcpLinks::new(rt.alloc(), rt)?;
     let mut clock = SystemClock::new(rt);
     let mut dice = SystemDice::new(rt.alloc(), rt);
@@ -78,5 +79,19 @@ fn serve(rt: &HostRuntime, words: &[String]) -> Result<CommandEnd, AllocError> {
         &desk,
     );
     links.send_on();
-    Ok(ended)
+    ended.with_keyring(rt.alloc(), keeper.notes().keyring.bytes())
+}
+
+// Of a keyring with which a node begins, why clauses of its caps grant nothing. The last one that was loaded is kept, for what is said
+// of the end of a node that it stops.
+#[derive(Drop)]
+struct StartNotes {
+    keyring: Blob,
+}
+
+impl RingNotes for StartNotes {
+    fn notes(&mut self, alloc: Global, keyring: &[u8]) -> Result<String, AllocError> {
+        self.keyring = Blob::of(alloc, keyring)?;
+        start_told(alloc, keyring)
+    }
 }

@@ -1,5 +1,6 @@
 -- How a command ends that runs a node.
-use Rattle.std.proofs.Common.{ℕ, ◌≡◌, ◌⊎◌, List, Option, inl, inr, sym, ◌∙◌, subst}
+use Rattle.std.proofs.Common.{ℕ, ◌≡◌, ◌⊎◌, List, Option, Some, None, inl, inr, sym, ◌∙◌, subst}
+use Rattle.cx_base.specs.Names.{Name}
 use Rattle.cx_drive_commands.specs.nodes.Outside.{Outside}
 use Rattle.cx_command_line.specs.Commands.{AskedClient, AskedDaemon, Client, Daemon, Monitor}
 use Rattle.cx_command_line.specs.declared.commands.MonitorCommand.{MonitorCommand}
@@ -34,28 +35,28 @@ answered_is_none ending entries taken after misses missed out written status (in
 answered_is_none ending entries taken after misses missed out written status (inr (inl front)) usage = unwritten_is_none ending (sym front.0 ∙ usage)
 answered_is_none ending entries taken after misses missed out written status (inr (inr none)) usage = let no : Text OutOfMemory ≡ Text Usage = sym none.0 ∙ usage in cc
 
-module _ {I O K L C D : Type 0} (kind : NodeKind) (Ran : List ℕ → NodeEnd → List Entry → Type 0) (a b : Streams I O) (v w : Lent K L C D) (result : CommandEnd) where
-  ends_is_none : (run : HasRun kind Ran a b v w result ⊎ HasNotRun kind Ran a b v w result) → result.status ≡ Text Usage → ⊥
+module _ {I O K L C D : Type 0} (kind : NodeKind) (name : Option Name) (Ran : List ℕ → NodeEnd → List Entry → Type 0) (a b : Streams I O) (v w : Lent K L C D) (result : CommandEnd) where
+  ends_is_none : (run : HasRun kind name Ran a b v w result ⊎ HasNotRun kind name Ran a b v w result) → result.status ≡ Text Usage → ⊥
   ends_is_none (inl ran) usage = answered_is_none ran.ending ran.entries a.taken b.taken a.misses b.misses a.out b.out result.status ran.answers usage
   ends_is_none (inr unrun) usage = subst (λ (s : CommandStatus). IsUnreadStatus a.left b.left a.faults b.faults s) usage unrun.why
 
-  pub node_is_none : NodeAnswers kind Ran a b v w result → result.status ≡ Text Usage → ⊥
+  pub node_is_none : NodeAnswers kind name Ran a b v w result → result.status ≡ Text Usage → ⊥
   node_is_none answers usage = ends_is_none answers usage
 
 -- ---- the command that ran is the one that was asked for
 
 module _ {I O K L C D : Type 0} (follows : L → L → List LinkAct → Type 0) (v w : Lent K L C D) (p q : Outside L) (a b : Streams I O) (result : CommandEnd) where
-  pub monitor_ended : (ran command : MonitorCommand) → Monitor ran ≡ Monitor command → NodeAnswers kind.Monitor (MonitorRun follows v w p q ran) a b v w result
-      → NodeAnswers kind.Monitor (MonitorRun follows v w p q command) a b v w result
+  pub monitor_ended : (ran command : MonitorCommand) → Monitor ran ≡ Monitor command → NodeAnswers kind.Monitor None (MonitorRun follows v w p q ran) a b v w result
+      → NodeAnswers kind.Monitor None (MonitorRun follows v w p q command) a b v w result
   monitor_ended ran command is ended =
-      let same : ran ≡ command = cc in subst (λ (c : MonitorCommand). NodeAnswers kind.Monitor (MonitorRun follows v w p q c) a b v w result) same ended
+      let same : ran ≡ command = cc in subst (λ (c : MonitorCommand). NodeAnswers kind.Monitor None (MonitorRun follows v w p q c) a b v w result) same ended
 
-  pub daemon_ended : (handlers : Handlers) (ran command : AskedDaemon) → Daemon ran ≡ Daemon command → NodeAnswers kind.Daemon (DaemonRun follows v w p q handlers ran) a b v w result
-      → NodeAnswers kind.Daemon (DaemonRun follows v w p q handlers command) a b v w result
+  pub daemon_ended : (handlers : Handlers) (ran command : AskedDaemon) → Daemon ran ≡ Daemon command → NodeAnswers kind.Daemon (Some ran.name) (DaemonRun follows v w p q handlers ran) a b v w result
+      → NodeAnswers kind.Daemon (Some command.name) (DaemonRun follows v w p q handlers command) a b v w result
   daemon_ended handlers ran command is ended =
-      let same : ran ≡ command = cc in subst (λ (c : AskedDaemon). NodeAnswers kind.Daemon (DaemonRun follows v w p q handlers c) a b v w result) same ended
+      let same : ran ≡ command = cc in subst (λ (c : AskedDaemon). NodeAnswers kind.Daemon (Some c.name) (DaemonRun follows v w p q handlers c) a b v w result) same ended
 
-  pub client_ended : (ran command : AskedClient) → Client ran ≡ Client command → NodeAnswers kind.Client (ClientRun follows v w p q ran) a b v w result
-      → NodeAnswers kind.Client (ClientRun follows v w p q command) a b v w result
+  pub client_ended : (ran command : AskedClient) → Client ran ≡ Client command → NodeAnswers kind.Client (Some ran.name) (ClientRun follows v w p q ran) a b v w result
+      → NodeAnswers kind.Client (Some command.name) (ClientRun follows v w p q command) a b v w result
   client_ended ran command is ended =
-      let same : ran ≡ command = cc in subst (λ (c : AskedClient). NodeAnswers kind.Client (ClientRun follows v w p q c) a b v w result) same ended
+      let same : ran ≡ command = cc in subst (λ (c : AskedClient). NodeAnswers kind.Client (Some c.name) (ClientRun follows v w p q c) a b v w result) same ended

@@ -3,6 +3,7 @@ use Rattle.std.proofs.Common.{ℕ, ◌≡◌, ◌≤◌, Bool, true, false, List
 use Rattle.std.specs.Prelude.{◌&&◌, nat_le, if◌then◌else◌, codes, option_and_then, option_map}
 use Rattle.std.specs.Str.{bytes_eq}
 use Rattle.std.proofs.lemmas.Bool.Decides.{nat_tests}
+use Rattle.cx_base.specs.Names.{Name}
 use Rattle.cx_base.specs.declared.addresses.Addr.{Addr}
 use Rattle.cx_command_line.specs.Commands as told
 use Rattle.cx_command_line.specs.Commands.{Asked, AskedClient, AskedDaemon, Replay, Keyring, Audit, Drill, Key, Monitor, Daemon, Client, IsMisread, alone, client, daemon, drill, events, lifetime, lives, spelled}
@@ -200,15 +201,15 @@ module _ {I O K L C D : Type 0} (words : List Word) (a : Streams I O) (v : Lent 
   misread_drill handlers command misread.OutOfMemory result is err status told = inl (unbegun a v result status told)
   misread_drill handlers command misread.Usage result is err status told = absurd (let no : None ≡ Some (Drill command) = sym err ∙ is in cc)
 
-  pub misread_node : (kind : NodeKind) (Ran : List ℕ → NodeEnd → List Entry → Type 0) (asked : Asked) (why : Misread) (result : CommandEnd) → spelled words ≡ Some asked → IsMisread words why
-      → result.status ≡ Text (misread_status why) → IsMisreadTold words why (string_bytes result.told) → NodeAnswers kind Ran a a v v result
-  misread_node kind Ran asked misread.OutOfMemory result is err status told = inr (record {
+  pub misread_node : (kind : NodeKind) (name : Option Name) (Ran : List ℕ → NodeEnd → List Entry → Type 0) (asked : Asked) (why : Misread) (result : CommandEnd) → spelled words ≡ Some asked → IsMisread words why
+      → result.status ≡ Text (misread_status why) → IsMisreadTold words why (string_bytes result.told) → NodeAnswers kind name Ran a a v v result
+  misread_node kind name Ran asked misread.OutOfMemory result is err status told = inr (record {
     why = subst (λ (s : CommandStatus). IsUnreadStatus a.left a.left a.faults a.faults s) (sym status) tt;
     untaken = refl;
     stood = refl;
     says = told;
   })
-  misread_node kind Ran asked misread.Usage result is err status told = absurd (let no : None ≡ Some asked = sym err ∙ is in cc)
+  misread_node kind name Ran asked misread.Usage result is err status told = absurd (let no : None ≡ Some asked = sym err ∙ is in cc)
 
   pub misread_key : (dice : Rolled) (why : Misread) (result : CommandEnd) → spelled words ≡ Some Key → IsMisread words why
       → result.status ≡ Text (misread_status why) → IsMisreadTold words why (string_bytes result.told) → KeyAnswers dice a a v v result
@@ -235,8 +236,8 @@ module _ {I O K L C D : Type 0} (words : List Word) (a b : Streams I O) (v w : L
   key_usage dice is ends =
       unused words a b v w result Key is (λ usage. subst (λ (s : CommandStatus). IsKeyEnd dice a.taken b.taken a.misses b.misses a.out b.out s) usage ends)
 
-  pub node_usage : (kind : NodeKind) (Ran : List ℕ → NodeEnd → List Entry → Type 0) (asked : Asked) → spelled words ≡ Some asked → NodeAnswers kind Ran a b v w result → UsageAnswers a b v w words result
-  node_usage kind Ran asked is answers = unused words a b v w result asked is (node_is_none kind Ran a b v w result answers)
+  pub node_usage : (kind : NodeKind) (name : Option Name) (Ran : List ℕ → NodeEnd → List Entry → Type 0) (asked : Asked) → spelled words ≡ Some asked → NodeAnswers kind name Ran a b v w result → UsageAnswers a b v w words result
+  node_usage kind name Ran asked is answers = unused words a b v w result asked is (node_is_none kind name Ran a b v w result answers)
 
   -- a drill's is only where its output's count rose, and then nothing is written
   pub drill_usage : (handlers : Handlers) (command : DrillCommand) (ended : ProgramEnd) → spelled words ≡ Some (Drill command) → result.status ≡ Text ended.status

@@ -1,12 +1,13 @@
 //! How the program ended, and what is said of it.
 
-ghost use Rattle.std.specs.Prelude.{◌≡◌, [], string_bytes};
-ghost use Rattle.cx_commands.specs.Ends.{is_node_done, number_of};
+ghost use Rattle.std.specs.Prelude.{◌≡◌, [], IfOk, string_bytes};
+ghost use Rattle.cx_top.specs.Told.{or_told};
+ghost use Rattle.cx_commands.specs.Ends.{is_node_done, number_of, ring_told};
 
-use cx_help::Ending;
+use cx_help::{Ending, ring_end_told};
 use cx_loading::NodeEnd;
 use cx_top::{ProgramEnd, Status, StatusLine};
-use std::alloc::Global;
+use std::alloc::{AllocError, Global};
 use std::fmt;
 
 /// How the program ended.
@@ -59,6 +60,31 @@ impl CommandEnd {
             status: CommandStatus::Text(ended.status),
             told: ended.told,
         }
+    }
+
+    /// With what is said of the keyring that a node loaded, where a line of it is wrong.
+    pub fn with_keyring(self, alloc: Global, bytes: &[u8]) -> Result<CommandEnd, AllocError>
+        ensures status { IfOk result (λ ended. ended.status ≡ self.status) }
+        ensures told { IfOk result (λ ended. string_bytes ended.told ≡ or_told (ring_told bytes.now self.status) (string_bytes self.told)) }
+    {
+        let told = ring_told(alloc, bytes, self.status)?;
+        match told.as_bytes() {
+            [] => Ok(self),
+            [..] => Ok(CommandEnd {
+                status: self.status,
+                told,
+            }),
+        }
+    }
+}
+
+// What is said of the keyring that a node loaded.
+fn ring_told(alloc: Global, bytes: &[u8], status: CommandStatus) -> Result<String, AllocError>
+    ensures { IfOk result (λ told. string_bytes told ≡ ring_told bytes.now status) }
+{
+    match status {
+        CommandStatus::Text(_) => Ok(String::new(alloc)),
+        CommandStatus::Node(end) => ring_end_told(alloc, bytes, end),
     }
 }
 

@@ -13,4 +13,5 @@ pub use ends::{CommandEnd, CommandStatus};
 pub use running::run;
 
 // What the program names beside them.
+pub use cx_help::start_told;
 pub use cx_top::Status;

@@ -1,10 +1,13 @@
 //! The commands that run a node: the script is read before it, and what it entered is written behind it.
 
-ghost use Rattle.std.specs.Prelude.{◌≡◌, ◌≤◌, [], string_bytes};
+ghost use Rattle.std.specs.Prelude.{◌≡◌, ◌≤◌, IfOk, None, Some, string_bytes};
+ghost use Rattle.std.specs.Option.{option_map};
 ghost use Rattle.cx_drive_commands.specs.nodes.Monitors.{IsMonitorCommand};
 ghost use Rattle.cx_drive_commands.specs.nodes.Outside.{outside};
 ghost use Rattle.cx_command_line.specs.Commands.{asked_client, asked_daemon};
 ghost use Rattle.cx_desk.specs.Held.{handlers_of};
+ghost use Rattle.cx_enc.specs.Names.{name_seen};
+ghost use Rattle.cx_help.specs.node.Told.{node_told};
 ghost use Rattle.cx_commands.specs.Lent.{lent, streams};
 ghost use Rattle.cx_commands.specs.NodeRuns.{ClientRun, DaemonRun, MonitorRun};
 ghost use Rattle.cx_commands.specs.declared.ends.CommandStatus.{CommandStatus};
@@ -17,13 +20,14 @@ use cx_command_line::{ClientCommand, DaemonCommand, MonitorCommand};
 use cx_desk::Desk;
 use cx_dice::Dice;
 use cx_drive_commands::{NodeReport, run_client, run_daemon, run_monitor};
-use cx_help::{NodeKind, script_told};
+use cx_enc::NameRef;
+use cx_help::{NodeKind, node_told};
 use cx_journal::put_text;
 use cx_keep::Keeper;
 use cx_loading::NodeEnd;
 use cx_outside::{Clock, Links};
 use cx_top::{Status, read_all};
-use std::alloc::Global;
+use std::alloc::{AllocError, Global};
 
 /// Runs the monitor.
 pub(crate) fn monitor<I: Source, O: Sink, K: Keeper, L: Links, C: Clock, D: Dice>(
@@ -37,7 +41,7 @@ pub(crate) fn monitor<I: Source, O: Sink, K: Keeper, L: Links, C: Clock, D: Dice
     dice: &mut D,
 ) -> CommandEnd
     requires { IsMonitorCommand command.now }
-    ensures ends { NodeAnswers kind.Monitor (MonitorRun L.follows (lent keeper.old links.old clock.old dice.old) (lent keeper.new links.new clock.new dice.new)
+    ensures ends { NodeAnswers kind.Monitor None (MonitorRun L.follows (lent keeper.old links.old clock.old dice.old) (lent keeper.new links.new clock.new dice.new)
         (outside (K.kept keeper.old) (K.faults keeper.old) links.old (L.faults links.old) (L.misses links.old) (C.coming clock.old) (D.coming dice.old) (D.faults dice.old))
         (outside (K.kept keeper.new) (K.faults keeper.new) links.new (L.faults links.new) (L.misses links.new) (C.coming clock.new) (D.coming dice.new) (D.faults dice.new))
         command.now)
@@ -53,7 +57,7 @@ pub(crate) fn monitor<I: Source, O: Sink, K: Keeper, L: Links, C: Clock, D: Dice
     };
     let script = bytes.bytes();
     let report = run_monitor(alloc, command, script, keeper, links, clock, dice);
-    answers(alloc, NodeKind::Monitor, script, report, out)
+    answers(alloc, NodeKind::Monitor, None, script, report, out)
 }
 
 /// Runs a client.
@@ -67,7 +71,7 @@ pub(crate) fn client<I: Source, O: Sink, K: Keeper, L: Links, C: Clock, D: Dice>
     clock: &mut C,
     dice: &mut D,
 ) -> CommandEnd
-    ensures ends { NodeAnswers kind.Client (ClientRun L.follows (lent keeper.old links.old clock.old dice.old) (lent keeper.new links.new clock.new dice.new)
+    ensures ends { NodeAnswers kind.Client (Some (name_seen command.now.name)) (ClientRun L.follows (lent keeper.old links.old clock.old dice.old) (lent keeper.new links.new clock.new dice.new)
         (outside (K.kept keeper.old) (K.faults keeper.old) links.old (L.faults links.old) (L.misses links.old) (C.coming clock.old) (D.coming dice.old) (D.faults dice.old))
         (outside (K.kept keeper.new) (K.faults keeper.new) links.new (L.faults links.new) (L.misses links.new) (C.coming clock.new) (D.coming dice.new) (D.faults dice.new))
         (asked_client command.now))
@@ -83,7 +87,8 @@ pub(crate) fn client<I: Source, O: Sink, K: Keeper, L: Links, C: Clock, D: Dice>
     };
     let script = bytes.bytes();
     let report = run_client(alloc, command, script, keeper, links, clock, dice);
-    answers(alloc, NodeKind::Client, script, report, out)
+    let name = Some(command.name);
+    answers(alloc, NodeKind::Client, name, script, report, out)
 }
 
 /// Runs a daemon, whose operations are served by `desk`.
@@ -98,7 +103,7 @@ pub(crate) fn daemon<I: Source, O: Sink, K: Keeper, L: Links, C: Clock, D: Dice>
     dice: &mut D,
     desk: &Desk,
 ) -> CommandEnd
-    ensures ends { NodeAnswers kind.Daemon (DaemonRun L.follows (lent keeper.old links.old clock.old dice.old) (lent keeper.new links.new clock.new dice.new)
+    ensures ends { NodeAnswers kind.Daemon (Some (name_seen command.now.name)) (DaemonRun L.follows (lent keeper.old links.old clock.old dice.old) (lent keeper.new links.new clock.new dice.new)
         (outside (K.kept keeper.old) (K.faults keeper.old) links.old (L.faults links.old) (L.misses links.old) (C.coming clock.old) (D.coming dice.old) (D.faults dice.old))
         (outside (K.kept keeper.new) (K.faults keeper.new) links.new (L.faults links.new) (L.misses links.new) (C.coming clock.new) (D.coming dice.new) (D.faults dice.new))
         (handlers_of desk.now) (asked_daemon command.now))
@@ -114,42 +119,59 @@ pub(crate) fn daemon<I: Source, O: Sink, K: Keeper, L: Links, C: Clock, D: Dice>
     };
     let script = bytes.bytes();
     let report = run_daemon(alloc, command, desk, script, keeper, links, clock, dice);
-    answers(alloc, NodeKind::Daemon, script, report, out)
+    let name = Some(command.name);
+    answers(alloc, NodeKind::Daemon, name, script, report, out)
 }
 
-// What the node entered is written.
+// What the node entered is written, and what is to be told of it is told.
 fn answers<O: Sink>(
     alloc: Global,
     kind: NodeKind,
+    name: Option<NameRef<'_>>,
     script: &[u8],
     report: NodeReport,
     out: &mut O,
 ) -> CommandEnd
     ensures ends { IsAnswered report.end report.journal (O.taken out.old) (O.taken out.new) (O.faults out.old) (O.faults out.new) out.old out.new result.status }
-    ensures told { IsNodeTold kind script.now report.end (string_bytes result.told) }
+    ensures told { IsNodeTold kind (option_map name_seen name.entry) script.now report.end result.status (string_bytes result.told) }
     ensures writes { O.faults out.old ≤ O.faults out.new }
 {
     let mut text = Blob::new(alloc);
     if put_text(alloc, &report.journal, &mut text).is_err() {
         return CommandEnd::plain(alloc, CommandStatus::Text(Status::OutOfMemory));
     }
+    let told = match told_of(alloc, kind, name, script, report.end) {
+        Ok(told) => told,
+        Err(_) => return CommandEnd::plain(alloc, CommandStatus::Text(Status::OutOfMemory)),
+    };
     match out.push(text.bytes()) {
-        Ok(()) => node_ended(alloc, kind, script, report.end),
-        Err(_) => CommandEnd::plain(alloc, unwritten(report.end)),
+        Ok(()) => CommandEnd {
+            status: CommandStatus::Node(report.end),
+            told,
+        },
+        Err(_) => CommandEnd {
+            status: unwritten(report.end),
+            told,
+        },
     }
 }
 
-// With what is said of its script.
-fn node_ended(alloc: Global, kind: NodeKind, script: &[u8], end: NodeEnd) -> CommandEnd
-    ensures status { result.status ≡ CommandStatus.Node end }
-    ensures told { IsNodeTold kind script.now end (string_bytes result.told) }
+// What is told of its script, or of the section that its keyring lacks.
+fn told_of(
+    alloc: Global,
+    kind: NodeKind,
+    name: Option<NameRef<'_>>,
+    script: &[u8],
+    end: NodeEnd,
+) -> Result<String, AllocError>
+    ensures { IfOk result (λ told. string_bytes told ≡ node_told kind (option_map name_seen name.entry) script.now end) }
 {
-    match script_told(alloc, kind, script, end) {
-        Ok(told) => CommandEnd {
-            status: CommandStatus::Node(end),
-            told,
-        },
-        Err(_) => CommandEnd::plain(alloc, CommandStatus::Node(end)),
+    match name {
+        Some(name) => {
+            let name = name.own(alloc)?;
+            node_told(alloc, kind, Some(&name), script, end)
+        }
+        None => node_told(alloc, kind, None, script, end),
     }
 }
 

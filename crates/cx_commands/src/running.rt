@@ -1,6 +1,6 @@
 //! The top call.
 
-ghost use Rattle.std.specs.Prelude.{◌≡◌, ◌≤◌, [], ◌∷◌, map, Some};
+ghost use Rattle.std.specs.Prelude.{◌≡◌, ◌≤◌, [], ◌∷◌, map, None, Some};
 ghost use Rattle.cx_command_line.specs.Commands as asked;
 ghost use Rattle.cx_command_line.specs.Commands.{AskedClient, AskedDaemon, spelled};
 ghost use Rattle.cx_command_line.specs.declared.commands.DrillCommand.{DrillCommand};
@@ -71,7 +71,7 @@ pub fn run<I: Source, O: Sink, K: Keeper, L: Links, C: Clock, D: Dice>(
         (lent keeper.old links.old clock.old dice.old) (lent keeper.new links.new clock.new dice.new) result }
     // `mon`.
     ensures mon { (command : MonitorCommand) → spelled (map (λ w. w.now) words.now) ≡ Some (asked.Monitor command)
-        → NodeAnswers kind.Monitor (MonitorRun L.follows (lent keeper.old links.old clock.old dice.old) (lent keeper.new links.new clock.new dice.new)
+        → NodeAnswers kind.Monitor None (MonitorRun L.follows (lent keeper.old links.old clock.old dice.old) (lent keeper.new links.new clock.new dice.new)
         (outside (K.kept keeper.old) (K.faults keeper.old) links.old (L.faults links.old) (L.misses links.old) (C.coming clock.old) (D.coming dice.old) (D.faults dice.old))
         (outside (K.kept keeper.new) (K.faults keeper.new) links.new (L.faults links.new) (L.misses links.new) (C.coming clock.new) (D.coming dice.new) (D.faults dice.new))
         command)
@@ -80,7 +80,7 @@ pub fn run<I: Source, O: Sink, K: Keeper, L: Links, C: Clock, D: Dice>(
         (lent keeper.old links.old clock.old dice.old) (lent keeper.new links.new clock.new dice.new) result }
     // `daemon`.
     ensures daemon { (command : AskedDaemon) → spelled (map (λ w. w.now) words.now) ≡ Some (asked.Daemon command)
-        → NodeAnswers kind.Daemon (DaemonRun L.follows (lent keeper.old links.old clock.old dice.old) (lent keeper.new links.new clock.new dice.new)
+        → NodeAnswers kind.Daemon (Some command.name) (DaemonRun L.follows (lent keeper.old links.old clock.old dice.old) (lent keeper.new links.new clock.new dice.new)
         (outside (K.kept keeper.old) (K.faults keeper.old) links.old (L.faults links.old) (L.misses links.old) (C.coming clock.old) (D.coming dice.old) (D.faults dice.old))
         (outside (K.kept keeper.new) (K.faults keeper.new) links.new (L.faults links.new) (L.misses links.new) (C.coming clock.new) (D.coming dice.new) (D.faults dice.new))
         (handlers_of desk.now) command)
@@ -89,7 +89,7 @@ pub fn run<I: Source, O: Sink, K: Keeper, L: Links, C: Clock, D: Dice>(
         (lent keeper.old links.old clock.old dice.old) (lent keeper.new links.new clock.new dice.new) result }
     // `client`.
     ensures client { (command : AskedClient) → spelled (map (λ w. w.now) words.now) ≡ Some (asked.Client command)
-        → NodeAnswers kind.Client (ClientRun L.follows (lent keeper.old links.old clock.old dice.old) (lent keeper.new links.new clock.new dice.new)
+        → NodeAnswers kind.Client (Some command.name) (ClientRun L.follows (lent keeper.old links.old clock.old dice.old) (lent keeper.new links.new clock.new dice.new)
         (outside (K.kept keeper.old) (K.faults keeper.old) links.old (L.faults links.old) (L.misses links.old) (C.coming clock.old) (D.coming dice.old) (D.faults dice.old))
         (outside (K.kept keeper.new) (K.faults keeper.new) links.new (L.faults links.new) (L.misses links.new) (C.coming clock.new) (D.coming dice.new) (D.faults dice.new))
         command)
@@ -141,7 +141,7 @@ fn invoked<I: Source, O: Sink, K: Keeper, L: Links, C: Clock, D: Dice>(
         (streams input.new (I.left input.new) (I.faults input.new) out.new (O.taken out.new) (O.faults out.new))
         (lent keeper.old links.old clock.old dice.old) (lent keeper.new links.new clock.new dice.new) result }
     ensures mon { (command : MonitorCommand) → asked.asked invocation.entry ≡ asked.Monitor command
-        → NodeAnswers kind.Monitor (MonitorRun L.follows (lent keeper.old links.old clock.old dice.old) (lent keeper.new links.new clock.new dice.new)
+        → NodeAnswers kind.Monitor None (MonitorRun L.follows (lent keeper.old links.old clock.old dice.old) (lent keeper.new links.new clock.new dice.new)
         (outside (K.kept keeper.old) (K.faults keeper.old) links.old (L.faults links.old) (L.misses links.old) (C.coming clock.old) (D.coming dice.old) (D.faults dice.old))
         (outside (K.kept keeper.new) (K.faults keeper.new) links.new (L.faults links.new) (L.misses links.new) (C.coming clock.new) (D.coming dice.new) (D.faults dice.new))
         command)
@@ -149,7 +149,7 @@ fn invoked<I: Source, O: Sink, K: Keeper, L: Links, C: Clock, D: Dice>(
         (streams input.new (I.left input.new) (I.faults input.new) out.new (O.taken out.new) (O.faults out.new))
         (lent keeper.old links.old clock.old dice.old) (lent keeper.new links.new clock.new dice.new) result }
     ensures daemon { (command : AskedDaemon) → asked.asked invocation.entry ≡ asked.Daemon command
-        → NodeAnswers kind.Daemon (DaemonRun L.follows (lent keeper.old links.old clock.old dice.old) (lent keeper.new links.new clock.new dice.new)
+        → NodeAnswers kind.Daemon (Some command.name) (DaemonRun L.follows (lent keeper.old links.old clock.old dice.old) (lent keeper.new links.new clock.new dice.new)
         (outside (K.kept keeper.old) (K.faults keeper.old) links.old (L.faults links.old) (L.misses links.old) (C.coming clock.old) (D.coming dice.old) (D.faults dice.old))
         (outside (K.kept keeper.new) (K.faults keeper.new) links.new (L.faults links.new) (L.misses links.new) (C.coming clock.new) (D.coming dice.new) (D.faults dice.new))
         (handlers_of desk.now) command)
@@ -157,7 +157,7 @@ fn invoked<I: Source, O: Sink, K: Keeper, L: Links, C: Clock, D: Dice>(
         (streams input.new (I.left input.new) (I.faults input.new) out.new (O.taken out.new) (O.faults out.new))
         (lent keeper.old links.old clock.old dice.old) (lent keeper.new links.new clock.new dice.new) result }
     ensures client { (command : AskedClient) → asked.asked invocation.entry ≡ asked.Client command
-        → NodeAnswers kind.Client (ClientRun L.follows (lent keeper.old links.old clock.old dice.old) (lent keeper.new links.new clock.new dice.new)
+        → NodeAnswers kind.Client (Some command.name) (ClientRun L.follows (lent keeper.old links.old clock.old dice.old) (lent keeper.new links.new clock.new dice.new)
         (outside (K.kept keeper.old) (K.faults keeper.old) links.old (L.faults links.old) (L.misses links.old) (C.coming clock.old) (D.coming dice.old) (D.faults dice.old))
         (outside (K.kept keeper.new) (K.faults keeper.new) links.new (L.faults links.new) (L.misses links.new) (C.coming clock.new) (D.coming dice.new) (D.faults dice.new))
         command)

@@ -1,9 +1,12 @@
 //! What a clause of caps grants, or why it grants nothing; and what is said of the caps of entities.
 
-ghost use Rattle.std.specs.Prelude.{◌≡◌, [], length, IfOk, string_bytes};
+ghost use Rattle.std.specs.Prelude.{◌≡◌, ◌≤◌, List, [], false, length, IfOk, string_bytes};
 ghost use Rattle.std.specs.List.{take_while};
-ghost use Rattle.cx_help.specs.keyring.Clauses.{access_text, bad_condition, caps_of_line, caps_told, clause_told, dead_text, grant_told, grants_up_to, inside, is_inside, line_told, lines_told, live_text, next_rest, note_line, reason_text, rest_of, rights_text, second_word, section_behind, service_told, texts_told, third_word, three_texts, told_at, told_behind, without_mark};
+ghost use Rattle.cx_help.specs.keyring.Clauses.{access_text, bad_condition, caps_of_line, caps_told, clause_told, comma_text, dead_text, grant_told, grants_up_to, inside, is_inside, line_told, lines_told, live_text, next_rest, note_line, reason_text, rest_of, rights_text, second_word, section_behind, service_told, texts_told, third_word, three_texts, told_at, told_behind, without_mark};
 ghost use Rattle.cx_help.specs.keyring.Grants.{part_in, word_behind};
+ghost use Rattle.cx_keyring.specs.Rings.{IsReason, KeyringText};
+ghost use Rattle.cx_keyring.specs.declared.entries.Entry.{Entry};
+ghost use Rattle.cx_keyring.specs.declared.refusals.KeyringRefusal.{KeyringRefusal};
 ghost use Rattle.cx_words.specs.Cutting.{lines_of};
 
 use crate::Word;
@@ -13,6 +16,7 @@ use crate::settings::{
     value_of,
 };
 use cx_base::{Access, EntityName, EntityType, Grant, is_long_part};
+use cx_keyring::{KeyringRefusal, parse};
 use cx_words::{first_line, is_word, name, service, shown_of};
 use std::alloc::{AllocError, Global};
 use std::fmt;
@@ -32,6 +36,19 @@ pub fn ring_told(alloc: Global, all: bool, bytes: &[u8]) -> Result<String, Alloc
         rest = after;
     }
     Ok(told)
+}
+
+/// What is said of the keyring that a node begins with: of each clause that grants nothing why, where it is a keyring; else nothing,
+/// since the node's end says then which line is wrong.
+pub fn start_told(alloc: Global, bytes: &[u8]) -> Result<String, AllocError>
+    ensures told { (ring : List Entry) → KeyringText bytes.now ring → length ring ≤ 4096 → IfOk result (λ told. string_bytes told ≡ lines_told false [] (lines_of bytes.now)) }
+    ensures none { (why : KeyringRefusal) → IsReason bytes.now why → IfOk result (λ told. string_bytes told ≡ []) }
+{
+    match parse(alloc, bytes) {
+        Ok(_) => ring_told(alloc, false, bytes),
+        Err(KeyringRefusal::OutOfMemory) => Err(AllocError),
+        Err(_) => Ok(String::new(alloc)),
+    }
 }
 
 /// The section in which the lines behind a line stand.
@@ -158,7 +175,7 @@ fn texts_told(
 ) -> Result<String, AllocError>
     ensures { IfOk result (λ told. string_bytes told ≡ texts_told all name.now service caps.now) }
 {
-    let mut told = clause_told(alloc, all, name, service, clause_at(caps))?;
+    let mut told = clause_told(alloc, false, all, name, service, clause_at(caps))?;
     let behind = told_behind(alloc, all, name, service, caps)?;
     told.push_str(&behind)?;
     Ok(told)
@@ -198,24 +215,25 @@ fn told_at(
     ensures { IfOk result (λ told. string_bytes told ≡ told_at all name.now service b after.now) }
 {
     if b == b',' {
-        return clause_told(alloc, all, name, service, clause_at(after));
+        return clause_told(alloc, true, all, name, service, clause_at(after));
     }
     Ok(String::new(alloc))
 }
 
-/// Of a clause: why it grants nothing; what it grants is said where all is.
+/// Of a clause, which stands behind a comma or not: why it grants nothing; what it grants is said where all is.
 #[tactic(auto, unfolding(crate::specs::keyring::Clauses::clause_told))]
 fn clause_told(
     alloc: Global,
+    later: bool,
     all: bool,
     name: &EntityName,
     service: EntityType,
     clause: &[u8],
 ) -> Result<String, AllocError>
-    ensures { IfOk result (λ told. string_bytes told ≡ clause_told all name.now service clause.now) }
+    ensures { IfOk result (λ told. string_bytes told ≡ clause_told later all name.now service clause.now) }
 {
     if !clause_grants(alloc, clause)? {
-        let text = dead(alloc, clause)?;
+        let text = dead(alloc, later, clause)?;
         return note_line(alloc, name, service, &text);
     }
     if !all {
@@ -290,21 +308,27 @@ fn three_texts(read: bool, write: bool, exec: bool) -> &'static str
 
 /// Why a clause grants nothing.
 #[tactic(auto, unfolding(crate::specs::keyring::Clauses::dead_text))]
-fn dead(alloc: Global, clause: &[u8]) -> Result<String, AllocError>
-    ensures { IfOk result (λ text. string_bytes text ≡ dead_text clause.now) }
+fn dead(alloc: Global, later: bool, clause: &[u8]) -> Result<String, AllocError>
+    ensures { IfOk result (λ text. string_bytes text ≡ dead_text later clause.now) }
 {
     let word = first_word(clause);
     if is_word(word, "") {
         return format!(in alloc; "an empty clause grants nothing");
     }
-    let reason = reason(alloc, clause, word, rest_of(clause))?;
+    let reason = reason(alloc, later, clause, word, rest_of(clause))?;
     format!(in alloc; "{}", DeadClause(clause, &reason))
 }
 
 /// By its first word, and what stands behind that.
 #[tactic(auto, unfolding(crate::specs::keyring::Clauses::reason_text))]
-fn reason(alloc: Global, clause: &[u8], word: &[u8], rest: &[u8]) -> Result<String, AllocError>
-    ensures { IfOk result (λ text. string_bytes text ≡ reason_text clause.now word.now rest.now) }
+fn reason(
+    alloc: Global,
+    later: bool,
+    clause: &[u8],
+    word: &[u8],
+    rest: &[u8],
+) -> Result<String, AllocError>
+    ensures { IfOk result (λ text. string_bytes text ≡ reason_text later clause.now word.now rest.now) }
 {
     if is_word(word, "profile") {
         return format!(in alloc; "{}", Profile);
@@ -312,7 +336,21 @@ fn reason(alloc: Global, clause: &[u8], word: &[u8], rest: &[u8]) -> Result<Stri
     if is_word(word, "allow") {
         return rights(alloc, clause, first_word(rest), rest_of(rest));
     }
-    format!(in alloc; "it begins with {}, and not with allow", ShownWord(word))
+    format!(in alloc;
+        "it begins with {}, and not with allow{}",
+        ShownWord(word),
+        comma_text(later)
+    )
+}
+
+/// Where it stands behind a comma, that this ends the clause before it.
+fn comma_text(later: bool) -> &'static str
+    ensures { result.now ≡ comma_text later }
+{
+    if later {
+        return " (the comma before it ends a clause; for two pools write two, as allow r pool=a, allow r pool=b)";
+    }
+    ""
 }
 
 /// By its word of rights, and what stands behind that.

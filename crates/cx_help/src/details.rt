@@ -9,7 +9,7 @@ ghost use Rattle.cx_help.specs.keyring.Standing.{label_of, stood_from};
 use crate::settings::{
     behind, behind_blanks, behind_caps, behind_word, caps_count, column, has_return,
     looks_like_auid, looks_like_caps, looks_like_journal, looks_like_key, looks_like_schedule,
-    opens_section, service_word, value_of, without_return, word_count,
+    looks_like_secret, opens_section, service_word, value_of, without_return, word_count,
 };
 use crate::standing::{key_like_behind, label_of, stood_before};
 use crate::{is_no_text, line_at};
@@ -42,6 +42,8 @@ pub enum Detail {
     LooksLikeCaps,
     /// It begins with a word of older keyrings.
     Auid,
+    /// It begins with the word of a key that is given elsewhere.
+    Secret,
     /// What stands in place of a name or a service.
     Standing(Shown),
     /// A key in quotation marks.
@@ -154,6 +156,9 @@ fn meant_for(line: &[u8]) -> Detail
     }
     if looks_like_auid(line) {
         return Detail::Auid;
+    }
+    if looks_like_secret(line) {
+        return Detail::Secret;
     }
     Detail::Nothing
 }

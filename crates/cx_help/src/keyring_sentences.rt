@@ -82,6 +82,7 @@ impl fmt::Display for Detail {
                 f,
                 " (auid is of older keyrings, and isn't kept here; leave the line out)"
             ),
+            Detail::Secret => write!(f, " (the key is written key = TEXT)"),
             Detail::Standing(shown) => write!(f, " (there stands {})", Word(shown)),
             Detail::KeyInMarks => {
                 write!(f, " (it stands in quotation marks; write it without them)")

@@ -34,7 +34,7 @@ mod told;
 mod words;
 
 pub use audit_wrong::WrongInJournal;
-pub use clauses::{caps_told, ring_told};
+pub use clauses::{caps_told, ring_told, start_told};
 pub use command_places::Place;
 pub use command_sentences::WrongWords;
 pub use command_wrong::{Why, WrongUsage, wrong_of};
@@ -49,7 +49,7 @@ pub use said::{BreachInJournal, VerdictLine};
 pub use scripts::{NodeKind, WrongInScript};
 pub use settings::starts;
 pub use sights::{LineSight, line_at, sight_of};
-pub use told::script_told;
+pub use told::{node_told, ring_end_told};
 pub use words::{Byte, Word, has_leading_zero};
 
 // It goes to another thread, and is seen by several.

@@ -5,7 +5,7 @@ ghost use Rattle.std.specs.List.{list_any, take_while};
 ghost use Rattle.cx_base.specs.Texts.{is_caps_byte};
 ghost use Rattle.cx_keyring.specs.Lines.{is_blank};
 ghost use Rattle.cx_help.specs.line.Remarks.{starts};
-ghost use Rattle.cx_help.specs.keyring.Settings.{behind_blanks, behind_caps, behind_word, blanks, caps_count, column, first_name, has_caps_letters, has_key_letters, has_return, is_return, looks_like_auid, looks_like_caps, looks_like_journal, is_before_equals, is_either, is_filling, is_first_step, is_head_line, is_of_name, looks_like_key, looks_like_schedule, opens_section, service_word, value_of, without_return, word_count};
+ghost use Rattle.cx_help.specs.keyring.Settings.{behind_blanks, behind_caps, behind_word, blanks, caps_count, column, first_name, has_caps_letters, has_key_letters, has_return, is_return, looks_like_auid, looks_like_caps, looks_like_journal, is_before_equals, is_either, is_filling, is_first_step, is_head_line, is_of_name, looks_like_key, looks_like_schedule, looks_like_secret, opens_section, service_word, stands_for_key, value_of, without_return, word_count};
 
 use cx_base::is_caps_byte;
 
@@ -199,6 +199,20 @@ pub(crate) fn looks_like_auid(line: &[u8]) -> bool
     ensures { result ≡ looks_like_auid line.now }
 {
     starts(behind_blanks(line), "auid")
+}
+
+/// Whether it begins with `secret`, by which mount options and other files give a key.
+pub(crate) fn looks_like_secret(line: &[u8]) -> bool
+    ensures { result ≡ looks_like_secret line.now }
+{
+    starts(behind_blanks(line), "secret")
+}
+
+/// Whether it is meant for a key.
+pub(crate) fn stands_for_key(line: &[u8]) -> bool
+    ensures { result ≡ stands_for_key line.now }
+{
+    looks_like_key(line) || looks_like_secret(line)
 }
 
 /// Whether a CR stands in it.

@@ -4,7 +4,7 @@ ghost use Rattle.std.specs.Prelude.{◌≡◌, IfOk};
 ghost use Rattle.cx_words.specs.Cutting.{lines_of};
 ghost use Rattle.cx_help.specs.keyring.Standing.{is_gap, key_like_from, label_of, or_found, stood_from};
 
-use crate::settings::{is_blank, looks_like_key, opens_section};
+use crate::settings::{is_blank, opens_section, stands_for_key};
 use cx_words::first_line;
 use std::alloc::{AllocError, Global};
 
@@ -72,7 +72,7 @@ fn or_found(
     }
 }
 
-/// The number of the first line behind the line of this number that looks like a key, before another section begins.
+/// The number of the first line behind the line of this number that is meant for a key, before another section begins.
 pub(crate) fn key_like_behind(bytes: &[u8], at: u64) -> Option<u64>
     ensures { result ≡ key_like_from at 1 (lines_of bytes.now) }
 {
@@ -83,7 +83,7 @@ pub(crate) fn key_like_behind(bytes: &[u8], at: u64) -> Option<u64>
             if opens_section(line) {
                 return None;
             }
-            if looks_like_key(line) {
+            if stands_for_key(line) {
                 return Some(number);
             }
         }

@@ -5,7 +5,7 @@ ghost use Rattle.std.specs.Prelude.{◌≡◌, ◌≤◌, length, IfOk};
 use crate::limits::others_write;
 use cx_base::{Blob, Failed};
 use cx_keep::{KeepError, Keeper, Slot};
-use std::alloc::Global;
+use std::alloc::{AllocError, Global};
 use std::fs::{File, Files, OpenOptions, TryLockError};
 use std::io::{Eprint, ErrorKind, Read, Write};
 use std::os::unix::fs::{MetadataExt, OpenOptionsExt};
@@ -20,24 +20,55 @@ const MOST: u64 = 16 << 20;
 /// one. One that is loaded is brought to the disk first. What others may write, file or folder, isn't loaded.
 ///
 /// From the first load on the folder is held open, and beside it a spare file, which is given up where a save needs one: so no save
-/// fails because links have taken all files that the process may open. What the system refuses is printed on standard error.
+/// fails because links have taken all files that the process may open. What the system refuses is printed on standard error, and so is
+/// what is noted of a keyring that is loaded.
 #[derive(Drop)]
-pub struct FolderKeeper<R> {
+pub struct FolderKeeper<R, N> {
     rt: R,
+    notes: N,
     folder: Option<File>,
     spare: Option<File>,
     faults: u64,
 }
 
-impl<R> FolderKeeper<R> {
+/// What is noted of each keyring that is loaded.
+pub trait RingNotes {
+    /// Lines for standard error.
+    fn notes(&mut self, alloc: Global, keyring: &[u8]) -> Result<String, AllocError>;
+}
+
+/// Nothing is noted.
+#[derive(Drop)]
+pub struct NoNotes;
+
+impl RingNotes for NoNotes {
+    fn notes(&mut self, alloc: Global, _keyring: &[u8]) -> Result<String, AllocError> {
+        Ok(String::new(alloc))
+    }
+}
+
+impl<R> FolderKeeper<R, NoNotes> {
     /// The folder in which the program runs.
-    pub fn new(rt: R) -> FolderKeeper<R> {
+    pub fn new(rt: R) -> FolderKeeper<R, NoNotes> {
+        FolderKeeper::with_notes(rt, NoNotes)
+    }
+}
+
+impl<R, N> FolderKeeper<R, N> {
+    /// The folder in which the program runs, with what is noted of its keyring.
+    pub fn with_notes(rt: R, notes: N) -> FolderKeeper<R, N> {
         FolderKeeper {
             rt,
+            notes,
             folder: None,
             spare: None,
             faults: 0,
         }
+    }
+
+    /// What was noted.
+    pub fn notes(&self) -> &N {
+        &self.notes
     }
 }
 
@@ -49,7 +80,7 @@ fn name_of(slot: Slot) -> &'static str {
     }
 }
 
-impl<R: Files<File = File> + Eprint> Keeper for FolderKeeper<R> {
+impl<R: Files<File = File> + Eprint, N: RingNotes> Keeper for FolderKeeper<R, N> {
     ghost use Rattle.std.specs.Prelude.{None};
 
     ghost kept = { λ _. None };
@@ -63,7 +94,10 @@ impl<R: Files<File = File> + Eprint> Keeper for FolderKeeper<R> {
             self.spare = fs::open(&self.rt, ".").ok();
         }
         match held.and_then(|()| read(&self.rt, alloc, slot)) {
-            Ok(bytes) => Ok(bytes),
+            Ok(loaded) => {
+                note(&self.rt, &mut self.notes, alloc, slot, &loaded)?;
+                Ok(loaded)
+            }
             Err(error) if error.kind() == ErrorKind::OutOfMemory => Err(KeepError::OutOfMemory),
             Err(error) => {
                 tell(&self.rt, name_of(slot), &error);
@@ -85,6 +119,24 @@ impl<R: Files<File = File> + Eprint> Keeper for FolderKeeper<R> {
                 Err(Failed)
             }
         }
+    }
+}
+
+// Says on standard error what is noted of a keyring that was loaded. Where that fails too, nothing is said.
+fn note<R: Eprint, N: RingNotes>(
+    rt: &R,
+    notes: &mut N,
+    alloc: Global,
+    slot: Slot,
+    loaded: &Option<Blob>,
+) -> Result<(), AllocError> {
+    match (slot, loaded) {
+        (Slot::Keyring, Some(keyring)) => {
+            let told = notes.notes(alloc, keyring.bytes())?;
+            let _ = eprint!(rt; "{told}");
+            Ok(())
+        }
+        _ => Ok(()),
     }
 }
 

@@ -15,5 +15,5 @@ mod table;
 
 pub use clock::SystemClock;
 pub use dice::SystemDice;
-pub use folder::FolderKeeper;
+pub use folder::{FolderKeeper, NoNotes, RingNotes};
 pub use links::TcpLinks;

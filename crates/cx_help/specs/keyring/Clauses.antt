@@ -60,21 +60,27 @@ rights_text clause word rest =
     else if grants_up_to clause rest then condition_text (bad_condition clause rest)
     else shown_word word <> codes " is no word of rights; write *, all, or one to three letters of r, w and x, each once"
 
+-- where it stands behind a comma, that this ends the clause before it
+abbrev pub comma_text : Bool → List ℕ
+comma_text true = codes " (the comma before it ends a clause; for two pools write two, as allow r pool=a, allow r pool=b)"
+comma_text false = []
+
 -- why, by its first word, behind which stands `rest`
-unfoldable pub reason_text : List ℕ → List ℕ → List ℕ → List ℕ
-reason_text clause word rest =
+unfoldable pub reason_text : Bool → List ℕ → List ℕ → List ℕ → List ℕ
+reason_text later clause word rest =
     if bytes_eq word (codes "profile") then profile_text
     else if bytes_eq word (codes "allow") then rights_text clause (first_word rest) (rest_of rest)
-    else codes "it begins with " <> shown_word word <> codes ", and not with allow"
+    else codes "it begins with " <> shown_word word <> codes ", and not with allow" <> comma_text later
 
 -- a clause that grants nothing, and why
 abbrev pub dead_clause_text : List ℕ → List ℕ → List ℕ
 dead_clause_text clause reason = shown_word (behind_blanks clause) <> codes " grants nothing: " <> reason
 
-unfoldable pub dead_text : List ℕ → List ℕ
-dead_text clause =
+-- `later`: it stands behind a comma
+unfoldable pub dead_text : Bool → List ℕ → List ℕ
+dead_text later clause =
     if bytes_eq (first_word clause) [] then codes "an empty clause grants nothing"
-    else dead_clause_text clause (reason_text clause (first_word clause) (rest_of clause))
+    else dead_clause_text clause (reason_text later clause (first_word clause) (rest_of clause))
 
 -- ---- what a clause grants
 
@@ -110,15 +116,15 @@ live_text clause =
 abbrev pub note_line : Name → EntityType → List ℕ → List ℕ
 note_line name service text = codes "cephx_cli: " <> name_text name <> codes ": " <> type_word service <> codes ": " <> text <> codes "\n"
 
--- of a clause: why it grants nothing; what it grants is said where all is
-unfoldable pub clause_told : Bool → Name → EntityType → List ℕ → List ℕ
-clause_told all name service clause =
+-- of a clause, which stands behind a comma or not: why it grants nothing; what it grants is said where all is
+unfoldable pub clause_told : Bool → Bool → Name → EntityType → List ℕ → List ℕ
+clause_told later all name service clause =
     if clause_grants clause then (if all then note_line name service (live_text clause) else [])
-    else note_line name service (dead_text clause)
+    else note_line name service (dead_text later clause)
 
 -- of the clause behind a comma (44), where the byte is one
 unfoldable pub told_at : Bool → Name → EntityType → ℕ → List ℕ → List ℕ
-told_at all name service b bs = if b == 44 then clause_told all name service (clause_at bs) else []
+told_at all name service b bs = if b == 44 then clause_told true all name service (clause_at bs) else []
 
 -- of the clauses behind the commas of a text
 unfoldable pub told_behind : Bool → Name → EntityType → List ℕ → List ℕ
@@ -127,7 +133,7 @@ told_behind all name service (b ∷ bs) = told_at all name service b bs ++ told_
 
 -- of caps for this service, of this entity
 unfoldable pub texts_told : Bool → Name → EntityType → List ℕ → List ℕ
-texts_told all name service caps = clause_told all name service (clause_at caps) ++ told_behind all name service caps
+texts_told all name service caps = clause_told false all name service (clause_at caps) ++ told_behind all name service caps
 
 -- the same of what an entity is granted
 unfoldable pub grant_told : Bool → Name → Grant → List ℕ

@@ -8,7 +8,7 @@ use Rattle.cx_help.specs.line.Sights.{line_at}
 use Rattle.cx_words.specs.lines.Sights.{shown_of}
 use Rattle.cx_help.specs.declared.details.Detail.{Detail}
 use Rattle.cx_help.specs.declared.details.Detail.TheVariants as detail
-use Rattle.cx_help.specs.keyring.Settings.{behind_blanks, behind_caps, behind_word, caps_count, column, has_return, looks_like_auid, looks_like_caps, looks_like_journal, looks_like_key, looks_like_schedule, opens_section, service_word, value_of, without_return, word_count}
+use Rattle.cx_help.specs.keyring.Settings.{behind_blanks, behind_caps, behind_word, caps_count, column, has_return, looks_like_auid, looks_like_caps, looks_like_journal, looks_like_key, looks_like_schedule, looks_like_secret, opens_section, service_word, value_of, without_return, word_count}
 use Rattle.cx_help.specs.keyring.Standing.{key_like_from, label_of, stood_from}
 
 -- ']' (93)
@@ -36,6 +36,7 @@ meant_for line =
     if looks_like_key line then detail.LooksLikeKey
     else if looks_like_caps line then detail.LooksLikeCaps
     else if looks_like_auid line then detail.Auid
+    else if looks_like_secret line then detail.Secret
     else detail.Nothing
 
 -- the same in a section

@@ -38,6 +38,7 @@ detail_text detail.LooksLikeKey = codes " (it looks like a key, whose line is ke
 detail_text detail.LooksLikeCaps =
     codes " (it looks like caps, whose line is caps SERVICE = TEXT, with small letters and an equals sign, as in caps osd = \"allow rw pool=rbd\")"
 detail_text detail.Auid = codes " (auid is of older keyrings, and isn't kept here; leave the line out)"
+detail_text detail.Secret = codes " (the key is written key = TEXT)"
 detail_text (detail.Standing shown) = codes " (there stands " <> word_text shown <> codes ")"
 detail_text detail.KeyInMarks = codes " (it stands in quotation marks; write it without them)"
 detail_text (detail.KeyLength count) = key_length_text count

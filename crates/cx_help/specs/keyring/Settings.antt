@@ -83,6 +83,14 @@ looks_like_caps line = has_caps_letters (behind_blanks line)
 abbrev pub looks_like_auid : List ℕ → Bool
 looks_like_auid line = starts (codes "auid") (behind_blanks line)
 
+-- it begins with "secret", by which mount options and other files give a key
+abbrev pub looks_like_secret : List ℕ → Bool
+looks_like_secret line = starts (codes "secret") (behind_blanks line)
+
+-- it is meant for a key
+abbrev pub stands_for_key : List ℕ → Bool
+stands_for_key line = looks_like_key line || looks_like_secret line
+
 -- a CR (13) stands in it
 abbrev pub is_return : ℕ → Bool
 is_return b = b == 13

@@ -2,7 +2,7 @@
 use Rattle.std.specs.Prelude.{ℕ, ◌+◌, ◌==◌, Bool, ◌||◌, nat_le, List, [], ◌∷◌, Option, Some, None, if◌then◌else◌}
 use Rattle.std.specs.Str.{bytes_eq}
 use Rattle.cx_keyring.specs.Lines.{is_blank}
-use Rattle.cx_help.specs.keyring.Settings.{looks_like_key, opens_section}
+use Rattle.cx_help.specs.keyring.Settings.{opens_section, stands_for_key}
 
 -- what a line sets: its bytes up to an equals sign, without blanks and CRs (13)
 abbrev pub is_gap : ℕ → Bool
@@ -23,11 +23,11 @@ stood_from label stop number found [] = found
 stood_from label stop number found (line ∷ lines) =
     if nat_le stop number then found else stood_from label stop (number + 1) (or_found label number found line) lines
 
--- the number of the first line behind that of the number `at` that looks like a key, before another section begins
+-- the number of the first line behind that of the number `at` that is meant for a key, before another section begins
 abbrev pub key_like_from : ℕ → ℕ → List (List ℕ) → Option ℕ
 key_like_from at number [] = None
 key_like_from at number (line ∷ lines) =
     if nat_le number at then key_like_from at (number + 1) lines
     else if opens_section line then None
-    else if looks_like_key line then Some number
+    else if stands_for_key line then Some number
     else key_like_from at (number + 1) lines

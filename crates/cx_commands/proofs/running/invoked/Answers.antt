@@ -91,17 +91,17 @@ monitor-requires g c =
 
 pub returns-in-Monitor-clause-usage : goal.returns-in-Monitor-clause-usage
 returns-in-Monitor-clause-usage g c =
-    node_usage (map (λ w. w.now) c.args.words.now) _ _ _ _ c.monitor.result kind.Monitor _ (asked.Monitor c.in-Monitor.command)
+    node_usage (map (λ w. w.now) c.args.words.now) _ _ _ _ c.monitor.result kind.Monitor _ _ (asked.Monitor c.in-Monitor.command)
     (c.requires ∙ ap (λ i. Some (asked.asked i)) c.in-Monitor.is) c.monitor.ensures.ends
 
 pub returns-in-Daemon-clause-usage : goal.returns-in-Daemon-clause-usage
 returns-in-Daemon-clause-usage g c =
-    node_usage (map (λ w. w.now) c.args.words.now) _ _ _ _ c.daemon.result kind.Daemon _ (asked.Daemon (asked.asked_daemon c.in-Daemon.command))
+    node_usage (map (λ w. w.now) c.args.words.now) _ _ _ _ c.daemon.result kind.Daemon _ _ (asked.Daemon (asked.asked_daemon c.in-Daemon.command))
     (c.requires ∙ ap (λ i. Some (asked.asked i)) c.in-Daemon.is) c.daemon.ensures.ends
 
 pub returns-in-Client-clause-usage : goal.returns-in-Client-clause-usage
 returns-in-Client-clause-usage g c =
-    node_usage (map (λ w. w.now) c.args.words.now) _ _ _ _ c.client.result kind.Client _ (asked.Client (asked.asked_client c.in-Client.command))
+    node_usage (map (λ w. w.now) c.args.words.now) _ _ _ _ c.client.result kind.Client _ _ (asked.Client (asked.asked_client c.in-Client.command))
     (c.requires ∙ ap (λ i. Some (asked.asked i)) c.in-Client.is) c.client.ensures.ends
 
 pub returns-in-Monitor-clause-mon : goal.returns-in-Monitor-clause-mon

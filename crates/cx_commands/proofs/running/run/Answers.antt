@@ -29,17 +29,17 @@ returns-in-Err-clause-key g c = λ is.
 
 pub returns-in-Err-clause-mon : goal.returns-in-Err-clause-mon
 returns-in-Err-clause-mon g c = λ command is.
-    misread_node (map (λ w. w.now) c.args.words.now) _ _ kind.Monitor _ (asked.Monitor command) c.in-Err.why c.misread.result is
+    misread_node (map (λ w. w.now) c.args.words.now) _ _ kind.Monitor _ _ (asked.Monitor command) c.in-Err.why c.misread.result is
     c.in-Err.ensures.err c.misread.ensures.status c.misread.ensures.told
 
 pub returns-in-Err-clause-daemon : goal.returns-in-Err-clause-daemon
 returns-in-Err-clause-daemon g c = λ command is.
-    misread_node (map (λ w. w.now) c.args.words.now) _ _ kind.Daemon _ (asked.Daemon command) c.in-Err.why c.misread.result is
+    misread_node (map (λ w. w.now) c.args.words.now) _ _ kind.Daemon _ _ (asked.Daemon command) c.in-Err.why c.misread.result is
     c.in-Err.ensures.err c.misread.ensures.status c.misread.ensures.told
 
 pub returns-in-Err-clause-client : goal.returns-in-Err-clause-client
 returns-in-Err-clause-client g c = λ command is.
-    misread_node (map (λ w. w.now) c.args.words.now) _ _ kind.Client _ (asked.Client command) c.in-Err.why c.misread.result is
+    misread_node (map (λ w. w.now) c.args.words.now) _ _ kind.Client _ _ (asked.Client command) c.in-Err.why c.misread.result is
     c.in-Err.ensures.err c.misread.ensures.status c.misread.ensures.told
 
 -- ---- words that are read
