@@ -8,7 +8,7 @@ mod sending;
 mod steps;
 mod told;
 
-pub use links::turns;
+pub use links::turn_link;
 pub use sending::sends;
 // What crates above name through this one, and so needn't list.
 pub use client::Client;

@@ -23,7 +23,7 @@ use cx_steps::Effects;
 use std::alloc::{AllocError, Global};
 
 /// One banner or frame of what came on a link is handled, if it lives.
-pub fn turns(
+pub fn turn_link(
     alloc: Global,
     own: &mut Own,
     links: &mut Links<Link>,
@@ -38,10 +38,10 @@ pub fn turns(
     ensures room { links.new.room ≡ None }
     ensures held { AreHeld links.new.links }
 {
-    turning(alloc, own, links, at)
+    turn_link_inner(alloc, own, links, at)
 }
 
-fn turning(
+fn turn_link_inner(
     alloc: Global,
     own: &mut Own,
     links: &mut Links<Link>,

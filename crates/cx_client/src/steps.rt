@@ -7,7 +7,8 @@ ghost use Rattle.cx_node.specs.steps.Steps.{node_of};
 ghost use Rattle.cx_client.specs.Machine.{AreHeld, IsStep, IsWritableCommand, IsWritableInput, lost};
 
 use crate::{
-    Link, Own, comes, connects, goes, logs_in, opens, opens_none, renews, restarts, sends, turns,
+    Link, Own, comes, connects, goes, logs_in, opens, opens_none, renews, restarts, sends,
+    turn_link,
 };
 use cx_base::Reading;
 use cx_dice::Draw;
@@ -51,7 +52,7 @@ pub(crate) fn steps(
                 reading: now,
                 draw,
             };
-            turns(alloc, own, links, &at)
+            turn_link(alloc, own, links, &at)
         }
         Event::Gone(number) => goes(alloc, own, links, number),
         Event::Submit(command) => submits(alloc, own, links, command, now, draw),

@@ -86,7 +86,7 @@ fn on_challenge(
     let mut opened = Items::new(alloc);
     match presenting.asked(alloc, payload, &mut opened) {
         Ok(challenge) => {
-            let made = answers(alloc, mon_client, at, link, callee, presenting, challenge);
+            let made = answer(alloc, mon_client, at, link, callee, presenting, challenge);
             let row = unless_refused(alloc, mon_client, at, opened, made)?;
             Ok(row)
         }
@@ -98,7 +98,7 @@ fn on_challenge(
 }
 
 // The second authorizer is sent and logged as sealed.
-fn answers(
+fn answer(
     alloc: Global,
     mon_client: &MonClient,
     at: &Moment<'_>,
@@ -112,7 +112,7 @@ fn answers(
         (session_sealed presenting.held.session (authorize_content presenting.nonce (Some challenge)) ∷ []) (second_frame presenting challenge)) result }
 {
     let sealed = presenting.sealed(alloc, Some(challenge))?;
-    let (answering, bytes) = answered(alloc, presenting, challenge)?;
+    let (answering, bytes) = answering_for(alloc, presenting, challenge)?;
     let sent = send_more(alloc, link, bytes)??;
     let mut seals = Items::new(alloc);
     seals.push(alloc, sealed)?;
@@ -124,7 +124,7 @@ fn answers(
     Ok(goes_on_unchanged(alloc, link, sent.bytes, seals))
 }
 
-fn answered(
+fn answering_for(
     alloc: Global,
     presenting: Presenting,
     challenge: u64,

@@ -86,8 +86,8 @@ pub(crate) fn on_hello(
     ensures { Makes mon_client.now at.now (wired at.now.number link (AwaitsHello called)) (λ a. on_hello a called read) result }
 {
     let _ = read?;
-    let (presenting, bytes) = presented(alloc, mon_client, &called, at.draw.challenge())?;
-    presents(
+    let (presenting, bytes) = presenting_for(alloc, mon_client, &called, at.draw.challenge())?;
+    present(
         alloc,
         mon_client,
         at,
@@ -100,7 +100,7 @@ pub(crate) fn on_hello(
 
 // What is shown with a nonce: the ticket of the daemon's service and the global id that are held now; where no such ticket is held any more,
 // those with which the link was asked for.
-fn presented(
+fn presenting_for(
     alloc: Global,
     mon_client: &MonClient,
     called: &Called,
@@ -122,7 +122,7 @@ fn service_of(called: &Called) -> EntityType
 }
 
 // The nonce is logged as drawn, also where the ticket is too long to be shown.
-fn presents(
+fn present(
     alloc: Global,
     mon_client: &MonClient,
     at: &Moment<'_>,

@@ -84,7 +84,7 @@ fn goes_with(
     } = resuming;
     match &call {
         BookCall::Resume { owner, .. } => {
-            let came = resumes(
+            let came = resume(
                 alloc, mon_client, at, link, owner, &reconnect, opened, number, epoch, last, lossy,
             )?;
             Ok(ResumedTurn {
@@ -101,7 +101,7 @@ fn goes_with(
 }
 
 // A session that was resumed is entered, SESSION_RECONNECT_OK is sent, and the link is open.
-fn resumes(
+fn resume(
     alloc: Global,
     mon_client: &MonClient,
     at: &Moment<'_>,

@@ -14,8 +14,8 @@ ghost use Rattle.cx_rules.specs.Secured.{acceptor_keys, connector_keys, plain_fr
 use crate::links::{Checked, Finished, PlainLink, SecureLink, SentFrame, Signing};
 use crate::refusals::LinkRefusal;
 use crate::sending::plain_bytes;
+use crate::tag;
 use crate::turns::LinkTurn;
-use crate::{tag, tag};
 use cx_base::{Blob, Items};
 use cx_control::{AuthSignature, put_auth_signature};
 use cx_digest::{SigningKey, mac};

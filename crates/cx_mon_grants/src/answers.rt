@@ -39,7 +39,7 @@ pub fn answer(
     ensures err { OnErr result (server.new ≡ server.old) }
 {
     let before = server.state();
-    let response = answers(alloc, server, bearer, request, at);
+    let response = answer_rotated(alloc, server, bearer, request, at);
     if response.is_err() {
         server.restore(before);
     }
@@ -47,7 +47,7 @@ pub fn answer(
 }
 
 // The secrets are rotated, whatever comes of the request.
-fn answers(
+fn answer_rotated(
     alloc: Global,
     server: &mut KeyServer,
     bearer: &Bearer,

@@ -31,7 +31,7 @@ pub fn turn<L: Numbered, T: Turner<L>>(
     let Some(link) = links.take(at.number) else {
         return Ok(Effects::new(alloc));
     };
-    match turns(alloc, own, links, at, link) {
+    match turn_taken(alloc, own, links, at, link) {
         Ok(out) => Ok(out),
         Err(error) => {
             links.give_up();
@@ -41,7 +41,7 @@ pub fn turn<L: Numbered, T: Turner<L>>(
 }
 
 // The link that was taken out of all is turned, and settled.
-fn turns<L: Numbered, T: Turner<L>>(
+fn turn_taken<L: Numbered, T: Turner<L>>(
     alloc: Global,
     own: &mut T,
     links: &mut Links<L>,

@@ -11,7 +11,7 @@ ghost use Rattle.cx_rules_session.specs.IncomingLinks.{challenges, looked_entry,
 ghost use Rattle.cx_rules_session.specs.Kinds.{entered_before};
 ghost use Rattle.cx_verifying.specs.Rows.{Makes};
 
-use crate::judged::{looked, turned_away};
+use crate::judged::{looked, turn_away_looked};
 use crate::links::{Link, Stage};
 use cx_authorize::{First, FirstPassed};
 use cx_base::Items;
@@ -38,13 +38,13 @@ pub(crate) fn on_first(
     let mut opened = Items::new(alloc);
     let first = First::new(kind);
     match first.check(alloc, payload, &view, at.reading, challenge, &mut opened) {
-        Ok(passed) => challenged(alloc, mon_client, at, link, opened, passed),
-        Err(why) => turned_away(alloc, mon_client, at, opened, why),
+        Ok(passed) => challenge_looked(alloc, mon_client, at, link, opened, passed),
+        Err(why) => turn_away_looked(alloc, mon_client, at, opened, why),
     }
 }
 
 // One that passes is challenged, behind what opened of it.
-fn challenged(
+fn challenge_looked(
     alloc: Global,
     mon_client: &MonClient,
     at: &Moment<'_>,
@@ -56,12 +56,12 @@ fn challenged(
     ensures { (shown : Shown) → IsChallenged mon_client.now.name.kind (challenge_of at.now.draw.now.bytes) shown passed
         → Makes mon_client.now at.now (wired at.now.number link AwaitsRequest) (λ a. entered_before (looked_entry a) (challenges a opened shown.ticket)) result }
 {
-    let made = challenges(alloc, mon_client, at, link, passed);
+    let made = challenge(alloc, mon_client, at, link, passed);
     looked(alloc, mon_client, at, opened, made)
 }
 
 // A challenge is drawn, and sent behind that it was drawn.
-fn challenges(
+fn challenge(
     alloc: Global,
     mon_client: &MonClient,
     at: &Moment<'_>,

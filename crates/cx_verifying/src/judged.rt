@@ -52,7 +52,7 @@ fn looked_entry(alloc: Global, mon_client: &MonClient, at: &Moment<'_>) -> Resul
 }
 
 // An authorizer that doesn't pass, behind what opened of it.
-pub(crate) fn turned_away(
+pub(crate) fn turn_away_looked(
     alloc: Global,
     mon_client: &MonClient,
     at: &Moment<'_>,
@@ -63,12 +63,12 @@ pub(crate) fn turned_away(
         (λ a. entered_before (looked_entry a) (turns_away a opened why)) result }
     ensures wanting { why ≡ refusal.OutOfMemory → result ≡ Err OutOfMemory }
 {
-    let made = turns_away(alloc, mon_client, at, why);
+    let made = turn_away(alloc, mon_client, at, why);
     looked(alloc, mon_client, at, opened, made)
 }
 
 // One that can't be read is refused, any other that doesn't pass denied.
-fn turns_away(
+fn turn_away(
     alloc: Global,
     mon_client: &MonClient,
     at: &Moment<'_>,

@@ -16,7 +16,7 @@ ghost use Rattle.cx_node.specs.steps.Making.{keeping};
 ghost use Rattle.cx_verifying.specs.Rows.{Makes};
 ghost use Rattle.cx_verifying.specs.Stages.{awaiting_proof, awaiting_signature};
 
-use crate::judged::{looked, turned_away};
+use crate::judged::{looked, turn_away_looked};
 use crate::links::{Link, Stage};
 use crate::owners::SessionOwner;
 use cx_authorize::{Authorized, Awaiting, SecondPassed};
@@ -43,13 +43,13 @@ pub(crate) fn on_second(
     let secret = at.draw.connection_secret();
     let mut opened = Items::new(alloc);
     match awaiting.check(alloc, payload, &view, at.reading, &secret, &mut opened) {
-        Ok(passed) => authorized(alloc, mon_client, at, link, opened, passed),
-        Err(why) => turned_away(alloc, mon_client, at, opened, why),
+        Ok(passed) => authorize_looked(alloc, mon_client, at, link, opened, passed),
+        Err(why) => turn_away_looked(alloc, mon_client, at, opened, why),
     }
 }
 
 // One that passes is answered, behind what opened of it.
-fn authorized(
+fn authorize_looked(
     alloc: Global,
     mon_client: &MonClient,
     at: &Moment<'_>,
@@ -62,12 +62,12 @@ fn authorized(
         → Makes mon_client.now at.now (awaiting_proof at.now.number link awaited)
         (λ a. entered_before (looked_entry a) (authorizes a opened shown.ticket shown.authorize.nonce)) result }
 {
-    let made = authorizes(alloc, mon_client, at, link, passed);
+    let made = authorize(alloc, mon_client, at, link, passed);
     looked(alloc, mon_client, at, opened, made)
 }
 
 // The secret of the connection is drawn for the entity of the ticket, and sent behind that it was drawn.
-fn authorizes(
+fn authorize(
     alloc: Global,
     mon_client: &MonClient,
     at: &Moment<'_>,

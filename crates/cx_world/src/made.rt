@@ -43,7 +43,7 @@ impl Made {
     pub(crate) fn failed(alloc: Global, out: &Effects) -> Result<Made, AllocError>
         ensures { IfOk result (λ made. made ≡ record { out = failed_out out.now; failed = true; happened = true }) }
     {
-        let seals = staying(alloc, out.seals.all())?;
+        let seals = remaining(alloc, out.seals.all())?;
         let mut left = Effects::new(alloc);
         left.seals = seals;
         left.turned = out.turned;
@@ -56,7 +56,7 @@ impl Made {
 }
 
 // What stays of the log where a save failed.
-fn staying(alloc: Global, seals: &[SealEntry]) -> Result<Items<SealEntry>, AllocError>
+fn remaining(alloc: Global, seals: &[SealEntry]) -> Result<Items<SealEntry>, AllocError>
     ensures { IfOk result (λ kept. kept ≡ filter stays seals.now) }
 {
     let mut kept = Items::new(alloc);

@@ -17,9 +17,9 @@ returns-in_ok-row-in-Ok c =
     let a : CallArrival = arrived (caller c.args.mon_client.now session) c.args.at.now (awaiting_challenge c.args.at.now.number c.args.link c.args.callee c.args.presenting) in
     let asked = rw c.new-opened.ensures at c.in-Ok.ensures in
     behind_as abridged_call_link changed a c.asked.new.log (answered_row a c.args.callee c.args.presenting [] c.in-Ok.challenge)
-    (on_challenge a c.args.callee c.args.presenting (whole authorize_challenge_layout.form c.args.payload.now)) c.answers-made.result c.in_ok-row-in-Ok.row
+    (on_challenge a c.args.callee c.args.presenting (whole authorize_challenge_layout.form c.args.payload.now)) c.answer-made.result c.in_ok-row-in-Ok.row
     (challenge_taken a c.args.callee c.args.presenting c.args.payload.now c.asked.new.log c.in-Ok.challenge asked)
-    (c.answers-made.ensures (AwaitsChallenge c.args.callee c.args.presenting) session) c.in_ok-row-in-Ok.ensures
+    (c.answer-made.ensures (AwaitsChallenge c.args.callee c.args.presenting) session) c.in_ok-row-in-Ok.ensures
 
 pub returns-in_ok-row-in-Err : goal.returns-in_ok-row-in-Err
 returns-in_ok-row-in-Err c =

@@ -37,7 +37,7 @@ returns c =
     ∙ nonce_by c.args.called c.args.mon_client.now (ticket_for c.args.called.callee.daemon.kind c.args.mon_client.now.holdings) (challenge_of c.args.at.now.draw.now.bytes)
     in
     let shows = shown.1 ∙ sym (ap bytes_of shown.0) in
-    makes_as abridged_call_link changed a (presents a c.called.inside.callee c.in_ok-presenting.presenting) (on_hello a c.args.called c.args.read) c.presents.result
+    makes_as abridged_call_link changed a (presents a c.called.inside.callee c.in_ok-presenting.presenting) (on_hello a c.args.called c.args.read) c.present.result
     (ap (λ (row : CallRow). row_due abridged_call_link row)
     (hello_is a c.args.called c.called.inside.callee c.in_ok-presenting.presenting c.args.read c.in_ok-read.field-0 c.in_ok-read.was callee shown.0))
-    (c.presents.ensures (AwaitsHello c.args.called) drew shows session)
+    (c.present.ensures (AwaitsHello c.args.called) drew shows session)

@@ -20,7 +20,7 @@ returns-in-Ok c =
     let checked = rw (c.new-first.ensures, kind, c.view-view.ensures, c.challenge-challenge.ensures, c.new-opened.ensures) at c.in-Ok.ensures in
     passed_makes a (judged_first c.args.mon_client.now.name.kind c.args.mon_client.now.view c.args.at.now.reading c.args.payload.now)
     (IsChallenged c.args.mon_client.now.name.kind (challenge_of c.args.at.now.draw.now.bytes)) c.check.new.log
-    (λ (seals : List SealEntry) (shown : Shown). challenges a seals shown.ticket) c.challenged.result c.in-Ok.passed checked c.challenged.ensures
+    (λ (seals : List SealEntry) (shown : Shown). challenges a seals shown.ticket) c.challenge_looked.result c.in-Ok.passed checked c.challenge_looked.ensures
 
 pub returns-in-Err : goal.returns-in-Err
 returns-in-Err c =
@@ -29,5 +29,5 @@ returns-in-Err c =
     let checked = rw (c.new-first.ensures, kind, c.view-view.ensures, c.new-opened.ensures) at c.in-Err.ensures in
     refused_makes a (judged_first c.args.mon_client.now.name.kind c.args.mon_client.now.view c.args.at.now.reading c.args.payload.now)
     (IsChallenged c.args.mon_client.now.name.kind (challenge_of c.args.at.now.draw.now.bytes)) c.check.new.log
-    (λ (seals : List SealEntry) (shown : Shown). challenges a seals shown.ticket) c.turned_away.result c.in-Err.why checked
-    (c.turned_away.ensures.row c.args.link AwaitsRequest) c.turned_away.ensures.wanting
+    (λ (seals : List SealEntry) (shown : Shown). challenges a seals shown.ticket) c.turn_away_looked.result c.in-Err.why checked
+    (c.turn_away_looked.ensures.row c.args.link AwaitsRequest) c.turn_away_looked.ensures.wanting

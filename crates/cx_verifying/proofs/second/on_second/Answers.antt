@@ -18,8 +18,8 @@ returns-in-Ok c =
     let checked = rw (c.view-view.ensures, c.connection_secret-secret.ensures, c.new-opened.ensures) at c.in-Ok.ensures in
     passed_makes a (judged_second c.args.awaiting c.args.mon_client.now.view c.args.at.now.reading c.args.payload.now)
     (IsAdmitted c.args.mon_client.now.view c.args.at.now.reading (connection_of c.args.at.now.draw.now.bytes)) c.check.new.log
-    (λ (seals : List SealEntry) (shown : Shown). authorizes a seals shown.ticket shown.authorize.nonce) c.authorized.result c.in-Ok.passed checked
-    (c.authorized.ensures c.args.awaiting)
+    (λ (seals : List SealEntry) (shown : Shown). authorizes a seals shown.ticket shown.authorize.nonce) c.authorize_looked.result c.in-Ok.passed checked
+    (c.authorize_looked.ensures c.args.awaiting)
 
 pub returns-in-Err : goal.returns-in-Err
 returns-in-Err c =
@@ -27,5 +27,5 @@ returns-in-Err c =
     let checked = rw (c.view-view.ensures, c.new-opened.ensures) at c.in-Err.ensures in
     refused_makes a (judged_second c.args.awaiting c.args.mon_client.now.view c.args.at.now.reading c.args.payload.now)
     (IsAdmitted c.args.mon_client.now.view c.args.at.now.reading (connection_of c.args.at.now.draw.now.bytes)) c.check.new.log
-    (λ (seals : List SealEntry) (shown : Shown). authorizes a seals shown.ticket shown.authorize.nonce) c.turned_away.result c.in-Err.why checked
-    (c.turned_away.ensures.row c.args.link (AwaitsProof c.args.awaiting)) c.turned_away.ensures.wanting
+    (λ (seals : List SealEntry) (shown : Shown). authorizes a seals shown.ticket shown.authorize.nonce) c.turn_away_looked.result c.in-Err.why checked
+    (c.turn_away_looked.ensures.row c.args.link (AwaitsProof c.args.awaiting)) c.turn_away_looked.ensures.wanting

@@ -15,7 +15,7 @@ use Rattle.cx_node.proofs.steps.MadeRows.{behind_as}
 use Rattle.cx_verifying.specs.Rows.{arrived, unchanged}
 use Rattle.cx_verifying.specs.Stages.{awaiting_proof}
 use Rattle.cx_verifying.proofs.Passing.{done_behind, reply_row}
-use Rattle.cx_verifying.proofs.second.authorizes.Goals as goal
+use Rattle.cx_verifying.proofs.second.authorize.Goals as goal
 
 pub returns : goal.returns
 returns c =

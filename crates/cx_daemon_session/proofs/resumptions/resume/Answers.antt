@@ -11,7 +11,7 @@ use Rattle.cx_node.specs.steps.Stages.{keys_alone}
 use Rattle.cx_daemon_session.specs.cx_verifying.specs.Rows.{MakesRow}
 use Rattle.cx_daemon_session.specs.cx_verifying.specs.Stages.{IncomingLink, awaiting_ident}
 use Rattle.cx_daemon_session.specs.idents.Pending.{ident_arrival}
-use Rattle.cx_daemon_session.proofs.resumptions.resumes.Goals as goal
+use Rattle.cx_daemon_session.proofs.resumptions.resume.Goals as goal
 
 pub returns : goal.returns
 returns c =

@@ -13,7 +13,7 @@ use Rattle.cx_node.specs.steps.Making.{row_due}
 use Rattle.cx_verifying.specs.Rows.{arrived, unchanged}
 use Rattle.cx_verifying.specs.Stages.{awaiting_proof}
 use Rattle.cx_verifying.proofs.Passing.{authorizes_behind}
-use Rattle.cx_verifying.proofs.second.authorized.Goals as goal
+use Rattle.cx_verifying.proofs.second.authorize_looked.Goals as goal
 
 pub returns : goal.returns
 returns c =
@@ -24,4 +24,4 @@ returns c =
     (entered (authorizes a c.args.opened shown.ticket shown.authorize.nonce)) c.looked.result
     (ap (λ (row : IncomingRow). row_due abridged_link (entered row)) (sym (authorizes_behind a c.args.opened shown.ticket shown.authorize.nonce)))
     (c.looked.ensures.row (awaiting_proof c.args.at.now.number c.args.link awaited) (authorizes a [] shown.ticket shown.authorize.nonce) refl
-    (c.authorizes-made.ensures awaited shown passes))
+    (c.authorize-made.ensures awaited shown passes))

@@ -1,5 +1,5 @@
 -- Each refusal has its row.
-use Rattle.cx_verifying.proofs.judged.turns_away.Goals as goal
+use Rattle.cx_verifying.proofs.judged.turn_away.Goals as goal
 
 pub returns-in-WrongService-clause-row : goal.returns-in-WrongService-clause-row
 returns-in-WrongService-clause-row c = rw c.in-WrongService.is c.denies.ensures

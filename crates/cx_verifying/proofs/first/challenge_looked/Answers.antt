@@ -13,7 +13,7 @@ use Rattle.cx_node.proofs.steps.MadeRows.{makes_as}
 use Rattle.cx_node.specs.steps.Making.{row_due}
 use Rattle.cx_verifying.specs.Rows.{arrived, unchanged}
 use Rattle.cx_verifying.proofs.Passing.{challenges_behind}
-use Rattle.cx_verifying.proofs.first.challenged.Goals as goal
+use Rattle.cx_verifying.proofs.first.challenge_looked.Goals as goal
 
 pub returns : goal.returns
 returns c =
@@ -22,4 +22,4 @@ returns c =
     let entered : IncomingRow → IncomingRow = λ row. entered_before (looked_entry a) row in
     makes_as abridged_link unchanged a (entered (with_opened c.args.opened (challenges a [] shown.ticket))) (entered (challenges a c.args.opened shown.ticket)) c.looked.result
     (ap (λ (row : IncomingRow). row_due abridged_link (entered row)) (sym (challenges_behind a c.args.opened shown.ticket)))
-    (c.looked.ensures.row (wired c.args.at.now.number c.args.link AwaitsRequest) (challenges a [] shown.ticket) refl (c.challenges-made.ensures shown passes))
+    (c.looked.ensures.row (wired c.args.at.now.number c.args.link AwaitsRequest) (challenges a [] shown.ticket) refl (c.challenge-made.ensures shown passes))

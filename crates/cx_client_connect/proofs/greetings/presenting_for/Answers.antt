@@ -3,7 +3,7 @@ use Rattle.std.proofs.Common.{IfOk, subst, sym}
 use Rattle.cx_authorize.specs.Client.{Presents}
 use Rattle.cx_client_connect.specs.cx_rules_session.specs.Sessions.{Called}
 use Rattle.cx_client_connect.proofs.presenting.Showing.{shows_called, shows_held}
-use Rattle.cx_client_connect.proofs.greetings.presented.Goals as goal
+use Rattle.cx_client_connect.proofs.greetings.presenting_for.Goals as goal
 
 pub returns-in-Some : goal.returns-in-Some
 returns-in-Some c =

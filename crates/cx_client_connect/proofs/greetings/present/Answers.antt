@@ -13,7 +13,7 @@ use Rattle.cx_steps.specs.declared.seals.SealEntry.TheVariants.{Drawn}
 use Rattle.cx_node.proofs.steps.MadeRows.{behind_as}
 use Rattle.cx_client_connect.specs.presenting.Rows.{arrived, caller, changed}
 use Rattle.cx_client_connect.proofs.presenting.Behind.{holding_behind}
-use Rattle.cx_client_connect.proofs.greetings.presents.Goals as goal
+use Rattle.cx_client_connect.proofs.greetings.present.Goals as goal
 
 pub returns : goal.returns
 returns c =

@@ -15,7 +15,7 @@ use Rattle.cx_steps.specs.declared.seals.SealEntry.TheVariants.{Drawn}
 use Rattle.cx_node.proofs.steps.MadeRows.{behind_as}
 use Rattle.cx_verifying.specs.Rows.{arrived, unchanged}
 use Rattle.cx_verifying.proofs.Passing.{challenge_row, holding_behind}
-use Rattle.cx_verifying.proofs.first.challenges.Goals as goal
+use Rattle.cx_verifying.proofs.first.challenge.Goals as goal
 
 pub returns : goal.returns
 returns c =

@@ -3,7 +3,7 @@ use Rattle.std.proofs.Common.{ap, ◌∙◌}
 use Rattle.cx_keyserver.specs.Servers.{Server}
 use Rattle.cx_mon_grants.specs.Occasions.{occasion_of}
 use Rattle.cx_mon_grants.proofs.Replied.{answers_respond}
-use Rattle.cx_mon_grants.proofs.answers.answers.Goals as goal
+use Rattle.cx_mon_grants.proofs.answers.answer_rotated.Goals as goal
 
 pub returns-clause-responds : goal.returns-clause-responds
 returns-clause-responds c =
