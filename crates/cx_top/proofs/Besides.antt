@@ -8,6 +8,7 @@ use Rattle.cx_help.specs.line.Sights.{line_at, sight_of}
 use Rattle.cx_help.specs.declared.sights.LineSight.{LineSight}
 use Rattle.cx_lines.specs.declared.lines.Numbered.{Numbered}
 use Rattle.cx_lines.specs.declared.sight.BadWord.{BadWord}
+use Rattle.cx_world.specs.declared.idle.IdleLine.{IdleLine}
 use Rattle.cx_world.specs.replay.Serving.{IsReplayOf, idle_lines, told}
 use Rattle.cx_schedule.specs.Files.{Lines}
 use Rattle.cx_words.specs.Cutting.{IsShort, lines_of}
@@ -23,7 +24,7 @@ pub bad_line_told : (bytes : List ℕ) (line : ℕ) (bad : BadWord) (sight : Lin
 bad_line_told bytes line bad sight said says is = says ∙ ap (λ (s : LineSight). line_told (bad_line_text line s)) is
 
 -- a replay with what is said of it
-pub replay_made : (handlers : Handlers) (bytes : List ℕ) (is_broken : Bool) (text said : List ℕ) (script : List Numbered) (journal : List Entry) (found : Option Broken) (idle : ℕ)
+pub replay_made : (handlers : Handlers) (bytes : List ℕ) (is_broken : Bool) (text said : List ℕ) (script : List Numbered) (journal : List Entry) (found : Option Broken) (idle : List IdleLine)
     → Lines bytes script → IsShort bytes → IsReplayOf handlers script journal found → is_broken ≡ is_some found
     → text ≡ journal_text (told journal found) → said ≡ schedule_told script ++ run_told found idle → idle ≡ idle_lines handlers script → Replays handlers bytes is_broken text said
 replay_made handlers bytes is_broken text said script journal found idle lines short replayed tells written says is = record {
@@ -35,5 +36,5 @@ replay_made handlers bytes is_broken text said script journal found idle lines s
   replayed = replayed;
   tells = tells;
   written = written;
-  besides = says ∙ ap (λ (n : ℕ). schedule_told script ++ run_told found n) is;
+  besides = says ∙ ap (λ (lines : List IdleLine). schedule_told script ++ run_told found lines) is;
 }

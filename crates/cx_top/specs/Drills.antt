@@ -21,7 +21,7 @@ abbrev pub drill_told : List Entry → Option Broken → List ℕ
 drill_told journal found = summary_text (summary_of journal) ++ breach_line found
 
 -- the text is that of the run over these handlers of the schedule of a drill of n clients by a seed; what is said besides tells the first breach, and
--- how many lines of the schedule did nothing
+-- which lines of the schedule did nothing
 pub record Drills (handlers : Handlers) (n seed : ℕ) (is_broken : Bool) (text told_besides : List ℕ) : Type 0 where
   pub journal : List Entry
   pub found : Option Broken

@@ -23,7 +23,7 @@ GaveAll None now bytes = Unit {0}
 GaveAll (Some left) now bytes = (bytes ≡ left) × (now ≡ Some [])
 
 -- the bytes are a schedule within the limits. The text is that of the journal of its run over these handlers, and behind it, where
--- a premise is broken, the first breach; what is said besides tells each clause of caps that grants nothing, that breach, and how many lines of the
+-- a premise is broken, the first breach; what is said besides tells each clause of caps that grants nothing, that breach, and which lines of the
 -- schedule did nothing
 pub record Replays (handlers : Handlers) (bytes : List ℕ) (is_broken : Bool) (text told_besides : List ℕ) : Type 0 where
   pub script : List Numbered

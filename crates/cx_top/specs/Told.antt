@@ -2,6 +2,7 @@
 -- program's name in front.
 use Rattle.std.specs.Prelude.{ℕ, ◌==◌, Bool, true, false, List, [], ◌∷◌, codes, Option, Some, None, if◌then◌else◌}
 use Rattle.std.specs.Fmt.{decimal}
+use Rattle.std.specs.List.{flat_map}
 use Rattle.std.specs.Str.{bytes_eq}
 use Rattle.cx_help.specs.audit.Wrong.{wrong_in_journal_text}
 use Rattle.cx_base.specs.Joined.{◌<>◌}
@@ -15,6 +16,11 @@ use Rattle.cx_help.specs.keyring.Sentences.{wrong_keyring_text}
 use Rattle.cx_help.specs.line.Sights.{line_at, sight_of}
 use Rattle.cx_help.specs.line.Words.{word_text}
 use Rattle.cx_words.specs.lines.Sights.{shown_of}
+use Rattle.cx_words.specs.declared.choices.Side.{Side}
+use Rattle.cx_words.specs.declared.choices.Side.TheVariants.{Connector, Acceptor}
+use Rattle.cx_world.specs.declared.idle.IdleLine.{IdleLine}
+use Rattle.cx_world.specs.declared.idle.IdleReason.{IdleReason}
+use Rattle.cx_world.specs.declared.idle.IdleReason.TheVariants.{NoLink, NothingUnderWay, EndGone, NoPiece, BothGone}
 use Rattle.cx_words.specs.Cutting.{lines_of}
 use Rattle.cx_top.specs.declared.status.Status.{Status}
 use Rattle.cx_top.specs.declared.status.Status.TheVariants.{Done, Usage, BadSchedule, ReadFault, WriteFault, OutOfMemory, BadKeyring, Broken as BrokenStatus, TooLong, BadJournal}
@@ -83,16 +89,28 @@ abbrev pub broken_told : Option Broken → List ℕ
 broken_told None = []
 broken_told (Some broken) = line_told (broken_text broken)
 
--- how many lines did nothing
-abbrev pub idle_text : ℕ → List ℕ
-idle_text idle =
-    if idle == 1 then codes "1 line of the schedule did nothing: the link, the end or the piece that it names isn't there"
-    else decimal idle <> codes " lines of the schedule did nothing: the links, the ends or the pieces that they name aren't there"
+-- which lines did nothing, and why
+abbrev pub side_text : Side → List ℕ
+side_text Connector = codes "the side that opened it (c)"
+side_text Acceptor = codes "the side that it was opened to (a)"
 
-abbrev pub idle_told : ℕ → List ℕ
-idle_told idle = if idle == 0 then [] else line_told (idle_text idle)
+abbrev pub idle_reason_text : IdleReason → List ℕ
+idle_reason_text (NoLink link) = codes "link " <> decimal link <> codes " isn't there"
+idle_reason_text (NothingUnderWay link side) = codes "on link " <> decimal link <> codes " nothing is under way from " <> side_text side
+idle_reason_text (EndGone link side) = codes "on link " <> decimal link <> codes " " <> side_text side <> codes " is gone"
+idle_reason_text (NoPiece link side place) = codes "on link " <> decimal link <> codes " " <> side_text side <> codes " sent no piece " <> decimal place
+idle_reason_text (BothGone link) = codes "both ends of link " <> decimal link <> codes " are gone"
 
-abbrev pub run_told : Option Broken → ℕ → List ℕ
+abbrev pub idle_text : IdleLine → List ℕ
+idle_text idle = codes "line " <> decimal idle.number <> codes " of the schedule did nothing: " <> idle_reason_text idle.why
+
+abbrev pub idle_line_told : IdleLine → List ℕ
+idle_line_told idle = line_told (idle_text idle)
+
+abbrev pub idle_told : List IdleLine → List ℕ
+idle_told lines = flat_map idle_line_told lines
+
+abbrev pub run_told : Option Broken → List IdleLine → List ℕ
 run_told found idle = broken_told found <> idle_told idle
 
 -- ---- all of it

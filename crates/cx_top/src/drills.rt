@@ -77,7 +77,7 @@ fn drilled(alloc: Global, clients: u32, seed: u64, desk: &Desk) -> Result<Made, 
     let script = script_of(alloc, clients, seed)?;
     let report = replay(alloc, &script, desk)?;
     let is_broken = report.broken.is_some();
-    let told = run_told(alloc, &report.broken, report.idle)?;
+    let told = run_told(alloc, &report.broken, report.idle.all())?;
     let text = text_of(alloc, summary_of(&report.journal), report.broken)?;
     Ok(Made {
         text,

@@ -8,17 +8,18 @@ use crate::told::run_told;
 use cx_help::caps_told;
 use cx_journal::Broken;
 use cx_lines::{Line, Numbered, Setting};
+use cx_world::IdleLine;
 use std::alloc::{AllocError, Global};
 
-/// What is said of a schedule and its run: the clauses of caps that grant nothing, the first breach of its premises, and how many of its lines did
-/// nothing.
+/// What is said of a schedule and its run: the clauses of caps that grant nothing, the first breach of its premises, and which of its lines did
+/// nothing, and why.
 pub fn replay_told(
     alloc: Global,
     lines: &[Numbered],
     broken: &Option<Broken>,
-    idle: u64,
+    idle: &[IdleLine],
 ) -> Result<String, AllocError>
-    ensures { IfOk result (λ told. string_bytes told ≡ schedule_told lines.now ++ run_told broken.now idle) }
+    ensures { IfOk result (λ told. string_bytes told ≡ schedule_told lines.now ++ run_told broken.now idle.now) }
 {
     let mut told = schedule_told(alloc, lines)?;
     let run = run_told(alloc, broken, idle)?;

@@ -26,7 +26,7 @@ pub fn replayed(alloc: Global, bytes: &[u8], desk: &Desk) -> Result<Made, Status
     let script = cx_schedule::read(alloc, bytes)?;
     let report = cx_world::replay(alloc, &script, desk)?;
     let is_broken = report.broken.is_some();
-    let told = replay_told(alloc, script.lines(), &report.broken, report.idle)?;
+    let told = replay_told(alloc, script.lines(), &report.broken, report.idle.all())?;
     let mut text = Blob::new(alloc);
     put_report(alloc, report, &mut text)?;
     Ok(Made {

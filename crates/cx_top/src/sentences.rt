@@ -1,10 +1,14 @@
 //! What a user reads of each status: what was wrong, and what to try; and what is said of an input or a run besides.
 
+ghost use Rattle.std.specs.Prelude.{◌≡◌};
+ghost use Rattle.cx_top.specs.Told.{side_text};
+
 use crate::status::Status;
 use cx_command_line::Help;
 use cx_help::{Detail, LineSight, Word, Wrong, WrongInJournal, WrongInKeyring};
 use cx_journal::{Broken, Premise};
-use cx_words::shown_of;
+use cx_words::{Side, shown_of};
+use cx_world::{IdleLine, IdleReason};
 use std::fmt;
 
 /// A sentence for each status but `Done`, which has none: what it tells by itself; for wrong words the commands that are served,
@@ -193,45 +197,65 @@ impl fmt::Display for Place {
     }
 }
 
-/// The line for standard error on lines that did nothing, if there are any.
+/// The line for standard error on a line that did nothing.
 #[derive(Clone, Copy)]
-pub(crate) struct IdleTold(pub(crate) u64);
+pub(crate) struct IdleTold(pub(crate) IdleLine);
 
 impl fmt::Display for IdleTold {
     ghost use Rattle.std.specs.Prelude.{Some};
-    ghost use Rattle.cx_top.specs.Told.{idle_told};
+    ghost use Rattle.cx_top.specs.Told.{idle_line_told};
 
-    ghost output = { λ idle. Some (idle_told idle.0) };
+    ghost output = { λ idle. Some (idle_line_told idle.0) };
 
     fn fmt<W: fmt::Write>(&self, f: &mut fmt::Formatter<W>) -> fmt::Result {
-        if self.0 == 0 {
-            return Ok(());
-        }
-        write!(f, "cephx_cli: {}\n", Idle(self.0))
+        write!(
+            f,
+            "cephx_cli: line {} of the schedule did nothing: {}\n",
+            self.0.number,
+            WhyIdle(self.0.why)
+        )
     }
 }
 
-/// So many lines did nothing.
+/// Why a line did nothing.
 #[derive(Clone, Copy)]
-struct Idle(u64);
+struct WhyIdle(IdleReason);
 
-impl fmt::Display for Idle {
+impl fmt::Display for WhyIdle {
     ghost use Rattle.std.specs.Prelude.{Some};
-    ghost use Rattle.cx_top.specs.Told.{idle_text};
+    ghost use Rattle.cx_top.specs.Told.{idle_reason_text};
 
-    ghost output = { λ idle. Some (idle_text idle.0) };
+    ghost output = { λ why. Some (idle_reason_text why.0) };
 
     fn fmt<W: fmt::Write>(&self, f: &mut fmt::Formatter<W>) -> fmt::Result {
-        if self.0 == 1 {
-            return write!(
+        match self.0 {
+            IdleReason::NoLink(link) => write!(f, "link {link} isn't there"),
+            IdleReason::NothingUnderWay(link, side) => write!(
                 f,
-                "1 line of the schedule did nothing: the link, the end or the piece that it names isn't there"
-            );
+                "on link {link} nothing is under way from {}",
+                side_text(side)
+            ),
+            IdleReason::EndGone(link, side) => {
+                write!(f, "on link {link} {} is gone", side_text(side))
+            }
+            IdleReason::NoPiece(link, side, place) => {
+                write!(
+                    f,
+                    "on link {link} {} sent no piece {place}",
+                    side_text(side)
+                )
+            }
+            IdleReason::BothGone(link) => write!(f, "both ends of link {link} are gone"),
         }
-        write!(
-            f,
-            "{} lines of the schedule did nothing: the links, the ends or the pieces that they name aren't there",
-            self.0
-        )
+    }
+}
+
+/// An end of a link, by who opened it.
+fn side_text(side: Side) -> &'static str
+    ensures { result.now ≡ side_text side }
+{
+    match side {
+        Side::Connector => "the side that opened it (c)",
+        Side::Acceptor => "the side that it was opened to (a)",
     }
 }

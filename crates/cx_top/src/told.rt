@@ -5,7 +5,7 @@ ghost use Rattle.std.specs.Str.{bytes_eq};
 ghost use Rattle.cx_top.specs.Audits.{verdict_told};
 ghost use Rattle.cx_top.specs.Causes.{IsEndOf};
 ghost use Rattle.cx_top.specs.Sentences.{bad_line_text};
-ghost use Rattle.cx_top.specs.Told.{extra_word_text, line_told, refusal_told, run_told, usage_told};
+ghost use Rattle.cx_top.specs.Told.{extra_word_text, idle_line_told, idle_told, line_told, refusal_told, run_told, usage_told};
 ghost use Rattle.cx_top.specs.declared.status.Status.{Status};
 
 use crate::program_end::ProgramEnd;
@@ -19,6 +19,7 @@ use cx_help::{
 use cx_journal::Broken;
 use cx_keyring::KeyringFault;
 use cx_lines::BadWord;
+use cx_world::IdleLine;
 use std::alloc::{AllocError, Global};
 
 #[tactic(auto, using(crate::proofs::Causes::ends_so, crate::proofs::Causes::ends_dry))]
@@ -140,9 +141,33 @@ pub fn verdict_told(alloc: Global, verdict: Verdict) -> Result<String, AllocErro
     }
 }
 
-/// What is said of a run: the first breach of its premises, and how many of its lines did nothing.
-pub fn run_told(alloc: Global, broken: &Option<Broken>, idle: u64) -> Result<String, AllocError>
-    ensures { IfOk result (λ told. string_bytes told ≡ run_told broken.now idle) }
+/// What is said of a run: the first breach of its premises, and which of its lines did nothing, and why.
+pub fn run_told(
+    alloc: Global,
+    broken: &Option<Broken>,
+    idle: &[IdleLine],
+) -> Result<String, AllocError>
+    ensures { IfOk result (λ told. string_bytes told ≡ run_told broken.now idle.now) }
 {
-    format!(in alloc; "{}{}", BreachTold(broken), IdleTold(idle))
+    let mut told = format!(in alloc; "{}", BreachTold(broken))?;
+    let idle = idle_told(alloc, idle)?;
+    told.push_str(&idle)?;
+    Ok(told)
+}
+
+fn idle_told(alloc: Global, idle: &[IdleLine]) -> Result<String, AllocError>
+    ensures { IfOk result (λ told. string_bytes told ≡ idle_told idle.now) }
+{
+    let mut told = String::new(alloc);
+    for line in idle {
+        let one = idle_line_told(alloc, *line)?;
+        told.push_str(&one)?;
+    }
+    Ok(told)
+}
+
+fn idle_line_told(alloc: Global, line: IdleLine) -> Result<String, AllocError>
+    ensures { IfOk result (λ told. string_bytes told ≡ idle_line_told line) }
+{
+    format!(in alloc; "{}", IdleTold(line))
 }

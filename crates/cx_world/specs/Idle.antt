@@ -1,5 +1,5 @@
--- Lines that do nothing: those on a link, an end or a piece that isn't there.
-use Rattle.std.specs.Prelude.{ℕ, ◌+◌, ◌==◌, ◌≡◌, ◌&&◌, not, Bool, true, false, List, [], ◌∷◌, length, Option, Some, None, if◌then◌else◌}
+-- Lines that do nothing, and why: those on a link, an end or a piece that isn't there.
+use Rattle.std.specs.Prelude.{ℕ, ◌==◌, ◌≡◌, ◌&&◌, ◌++◌, not, List, [], ◌∷◌, length, Option, Some, None, if◌then◌else◌}
 use Rattle.cx_desk.specs.Handlers.{Handlers}
 use Rattle.cx_words.specs.declared.choices.Side.{Side}
 use Rattle.cx_words.specs.declared.choices.Side.TheVariants.{Connector, Acceptor}
@@ -14,61 +14,73 @@ use Rattle.cx_world_start.specs.cx_run.specs.Schedules.{after_line, ever_sent}
 use Rattle.cx_world_start.specs.cx_run.specs.Wires.{Wire, end_of, other, owes_gone, pieces_from, wire_of}
 use Rattle.cx_world_start.specs.cx_run.specs.Worlds.{World}
 use Rattle.cx_world.specs.Carried.{Began, Carries}
+use Rattle.cx_world.specs.declared.idle.IdleLine.{IdleLine}
+use Rattle.cx_world.specs.declared.idle.IdleReason.{IdleReason}
+use Rattle.cx_world.specs.declared.idle.IdleReason.TheVariants.{NoLink, NothingUnderWay, EndGone, NoPiece, BothGone}
 use Rattle.cx_world.specs.declared.world.World.{World as Held}
 
--- no piece is under way from the side, if there is such a link
-abbrev pub is_empty : Side → Option Wire → Bool
-is_empty side None = true
-is_empty side (Some wire) = length (pieces_from wire side) == 0
+-- no piece is under way from the side, or there is no such link
+abbrev pub why_empty : ℕ → Side → Option Wire → Option IdleReason
+why_empty number side None = Some (NoLink number)
+why_empty number side (Some wire) = if length (pieces_from wire side) == 0 then Some (NothingUnderWay number side) else None
 
 -- nor is the other end still to be told that this one is gone
-abbrev pub is_done : Side → Option Wire → Bool
-is_done side None = true
-is_done side (Some wire) = (length (pieces_from wire side) == 0) && not (owes_gone wire side)
+abbrev pub why_done : ℕ → Side → Option Wire → Option IdleReason
+why_done number side None = Some (NoLink number)
+why_done number side (Some wire) = if (length (pieces_from wire side) == 0) && not (owes_gone wire side) then Some (NothingUnderWay number side) else None
 
 -- there is no such link, or its other end is gone
-abbrev pub is_deaf : Side → Option Wire → Bool
-is_deaf side None = true
-is_deaf side (Some wire) = not (end_of wire (other side)).lives
+abbrev pub why_deaf : ℕ → Side → Option Wire → Option IdleReason
+why_deaf number side None = Some (NoLink number)
+why_deaf number side (Some wire) = if (end_of wire (other side)).lives then None else Some (EndGone number (other side))
+
+-- there is no such link, or its end never sent so many pieces
+abbrev pub why_unsent : ℕ → Side → ℕ → Option Wire → Option IdleReason
+why_unsent number side k None = Some (NoLink number)
+why_unsent number side k (Some wire) = Some (NoPiece number side k)
 
 -- there is no such piece, or no link on which it arrives
-abbrev pub is_unheard : Side → Option (List ℕ) → Option Wire → Bool
-is_unheard side None to = true
-is_unheard side (Some piece) to = is_deaf side to
+abbrev pub why_unheard : ℕ → Side → ℕ → ℕ → Option (List ℕ) → Option Wire → Option Wire → Option IdleReason
+why_unheard number side k to None from far = why_unsent number side k from
+why_unheard number side k to (Some piece) from far = why_deaf to side far
 
 -- there is no such link, or both of its ends are gone
-abbrev pub is_over : Option Wire → Bool
-is_over None = true
-is_over (Some wire) = not (end_of wire Connector).lives && not (end_of wire Acceptor).lives
+abbrev pub why_over : ℕ → Option Wire → Option IdleReason
+why_over number None = Some (NoLink number)
+why_over number (Some wire) = if not (end_of wire Connector).lives && not (end_of wire Acceptor).lives then Some (BothGone number) else None
 
--- a line on a link does nothing, where these are the links
-abbrev pub is_idle_step : List Wire → LinkStep → Bool
-is_idle_step wires (link.Carry number side n) = is_done side (wire_of number wires)
-is_idle_step wires (link.Lose number side) = is_empty side (wire_of number wires)
-is_idle_step wires (link.Inject number side bytes) = is_deaf side (wire_of number wires)
-is_idle_step wires (link.Again number side k to) = is_unheard side (ever_sent k side (wire_of number wires)) (wire_of to wires)
-is_idle_step wires (link.Cut number) = is_over (wire_of number wires)
+-- why a line on a link does nothing, if it does nothing, where these are the links
+abbrev pub why_idle_step : List Wire → LinkStep → Option IdleReason
+why_idle_step wires (link.Carry number side n) = why_done number side (wire_of number wires)
+why_idle_step wires (link.Lose number side) = why_empty number side (wire_of number wires)
+why_idle_step wires (link.Inject number side bytes) = why_deaf number side (wire_of number wires)
+why_idle_step wires (link.Again number side k to) = why_unheard number side k to (ever_sent k side (wire_of number wires)) (wire_of number wires) (wire_of to wires)
+why_idle_step wires (link.Cut number) = why_over number (wire_of number wires)
 
-abbrev pub is_idle : List Wire → Line → Bool
-is_idle wires (line.Setting setting) = false
-is_idle wires (line.Submit command) = false
-is_idle wires (line.Do command) = false
-is_idle wires (line.Link step) = is_idle_step wires step
-is_idle wires (line.Node step) = false
+abbrev pub why_idle : List Wire → Line → Option IdleReason
+why_idle wires (line.Setting setting) = None
+why_idle wires (line.Submit command) = None
+why_idle wires (line.Do command) = None
+why_idle wires (line.Link step) = why_idle_step wires step
+why_idle wires (line.Node step) = None
 
--- one where the line does nothing
-abbrev pub idle_at : List Wire → Line → ℕ
-idle_at wires line = if is_idle wires line then 1 else 0
+-- a line of this number that does nothing for this reason, if there is one
+abbrev pub idle_for : ℕ → Option IdleReason → List IdleLine
+idle_for number None = []
+idle_for number (Some why) = record { number = number; why = why } ∷ []
 
--- how many of these lines do nothing, from this world on
-abbrev pub idle_among : World → List Numbered → ℕ
-idle_among w [] = 0
-idle_among w (l ∷ lines) = idle_at w.wires l.line + idle_among (after_line w l) lines
+abbrev pub idle_at : List Wire → Numbered → List IdleLine
+idle_at wires numbered = idle_for numbered.number (why_idle wires numbered.line)
 
--- how many lines of a schedule do nothing, where the daemons have these handlers
-abbrev pub idle_lines : Handlers → List Numbered → ℕ
+-- which of these lines do nothing, from this world on
+abbrev pub idle_among : World → List Numbered → List IdleLine
+idle_among w [] = []
+idle_among w (l ∷ lines) = idle_at w.wires l ++ idle_among (after_line w l) lines
+
+-- which lines of a schedule do nothing, where the daemons have these handlers
+abbrev pub idle_lines : Handlers → List Numbered → List IdleLine
 idle_lines handlers script = idle_among (opening_world (setup_of handlers script)) script
 
--- so many of these lines do nothing, from each world on that is carried
-abbrev pub CountsIdle : Handlers → Held → List Numbered → ℕ → Type 0
-CountsIdle handlers held lines n = (b : Began handlers) (w : World) → Carries b None held w → n ≡ idle_among w lines
+-- these are the lines that do nothing, from each world on that is carried
+abbrev pub FindsIdle : Handlers → Held → List Numbered → List IdleLine → Type 0
+FindsIdle handlers held lines found = (b : Began handlers) (w : World) → Carries b None held w → found ≡ idle_among w lines

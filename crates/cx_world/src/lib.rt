@@ -24,6 +24,7 @@ mod settling;
 mod texts;
 mod world;
 
+pub use idle::{IdleLine, IdleReason};
 pub use made::Made;
 pub use members::{Member, MemberNode};
 pub use nodes::Nodes;
@@ -47,6 +48,7 @@ fn actors_types_are_sendable() {
 }
 
 fn all_are_sendable() {
+    is_sendable::<IdleLine>();
     is_sendable::<Report>();
     is_sendable::<world::World>();
 }

@@ -15,12 +15,13 @@ ghost use Rattle.cx_steps.specs.Breach.{IsFound};
 ghost use Rattle.cx_steps.specs.declared.seals.Logged.{Logged};
 ghost use Rattle.cx_world.specs.Beginning.{began};
 ghost use Rattle.cx_world.specs.Carried.{Carries, MakesAlone};
-ghost use Rattle.cx_world.specs.Idle.{idle_lines, CountsIdle};
+ghost use Rattle.cx_world.specs.Idle.{idle_lines, FindsIdle};
 
 use crate::Setup;
+use crate::idle::IdleLine;
 use crate::records::Record;
 use crate::world::World;
-use cx_base::Duplicate;
+use cx_base::{Duplicate, Items};
 use cx_desk::Desk;
 use cx_journal::{Broken, Journal};
 use cx_lines::Numbered;
@@ -28,12 +29,12 @@ use cx_premises::Ledger;
 use cx_schedule::Script;
 use std::alloc::{AllocError, Global};
 
-/// What comes of a run: its journal, the first breach of its premises, if they are broken, and how many of its lines did nothing.
+/// What comes of a run: its journal, the first breach of its premises, if they are broken, and which of its lines did nothing, and why.
 #[derive(Drop)]
 pub struct Report {
     pub journal: Journal,
     pub broken: Option<Broken>,
-    pub idle: u64,
+    pub idle: Items<IdleLine>,
 }
 
 /// The run of a schedule, where the daemons have the handlers of this desk.
@@ -62,9 +63,13 @@ pub fn run(alloc: Global, script: &Script, desk: &Desk) -> Result<Report, AllocE
     })
 }
 
-/// The world behind all lines of a schedule, and how many of these did nothing.
+/// The world behind all lines of a schedule, and which of these did nothing.
 #[tactic(auto, using(crate::proofs::Started::in_range, crate::proofs::Started::all_written))]
-fn behind_all(alloc: Global, lines: &[Numbered], desk: &Desk) -> Result<(World, u64), AllocError>
+fn behind_all(
+    alloc: Global,
+    lines: &[Numbered],
+    desk: &Desk,
+) -> Result<(World, Items<IdleLine>), AllocError>
     requires { IsSchedule lines.now }
     ensures world { IfOk result (λ found. Carries (began (setup_of (handlers_of desk.now) lines.now)) None found.0 (after_lines (opening_world (setup_of (handlers_of desk.now) lines.now)) lines.now)) }
     ensures idle { IfOk result (λ found. found.1 ≡ idle_lines (handlers_of desk.now) lines.now) }
@@ -75,21 +80,21 @@ fn behind_all(alloc: Global, lines: &[Numbered], desk: &Desk) -> Result<(World, 
     Ok((world, idle))
 }
 
-/// What all of these lines do, one by one, and how many of them do nothing.
+/// What all of these lines do, one by one, and which of them do nothing.
 fn act_all(
     alloc: Global,
     desk: &Desk,
     world: &mut World,
     lines: &[Numbered],
-) -> Result<u64, AllocError>
+) -> Result<Items<IdleLine>, AllocError>
     requires in_range { IsTrue (list_all is_numbered_in_range lines.now) }
     requires written { IsTrue (list_all is_numbered_written lines.now) }
     ensures acts { OnOk result (MakesAlone (handlers_of desk.now) world.old world.new (λ w. after_lines w lines.now)) }
-    ensures idle { IfOk result (CountsIdle (handlers_of desk.now) world.old lines.now) }
+    ensures idle { IfOk result (FindsIdle (handlers_of desk.now) world.old lines.now) }
 {
-    let mut idle = 0;
+    let mut idle = Items::new(alloc);
     for line in lines {
-        idle += world.idle_at(&line.line);
+        world.note_idle(alloc, line, &mut idle)?;
         world.act(alloc, desk, line)?;
     }
     Ok(idle)

@@ -1,5 +1,4 @@
-use Rattle.std.proofs.Common.{◌≤◌, ◌+◌, arith}
-use Rattle.cx_world.proofs.Idling.{counted_all, counted_more}
+use Rattle.cx_world.proofs.Idling.{found_all, found_more}
 use Rattle.cx_world.proofs.Started.{acted_all, acted_more}
 use Rattle.cx_world.proofs.runs.act_all.Goals as goal
 
@@ -7,13 +6,12 @@ pub loop-line-preserved : goal.loop-line-preserved
 loop-line-preserved g c = record {
   acts = acted_more c.args.world.now c.loop-line.world c.act.new.self c.args.lines.now c.loop-line.line-index c.line-item.result c.loop-line-test.true c.line-item.is
       c.loop-line.invariant.acts c.in_ok-act.ensures;
-  idle = counted_more c.args.world.now c.loop-line.world c.args.lines.now c.loop-line.line-index c.line-item.result c.loop-line.idle c.idle_at-idle.result
-      c.loop-line-test.true c.line-item.is c.loop-line.invariant.acts c.loop-line.invariant.idle c.idle_at-idle.ensures.value;
-  few = omega (arith, c.loop-line.invariant.few, c.idle_at-idle.ensures.bound);
+  idle = found_more c.args.world.now c.loop-line.world c.args.lines.now c.loop-line.line-index c.line-item.result c.loop-line.idle c.note_idle.new.idle
+      c.loop-line-test.true c.line-item.is c.loop-line.invariant.acts c.loop-line.invariant.idle c.in_ok-note_idle.ensures;
 }
 
 pub returns : goal.returns
 returns g c = record {
   acts = acted_all c.args.world.now c.loop-line.world c.args.lines.now c.loop-line.line-index c.loop-line-test.false c.loop-line.invariant.acts;
-  idle = counted_all c.args.world.now c.args.lines.now c.loop-line.line-index c.loop-line.idle c.loop-line-test.false c.loop-line.invariant.idle;
+  idle = found_all c.args.world.now c.args.lines.now c.loop-line.line-index c.loop-line.idle c.loop-line-test.false c.loop-line.invariant.idle;
 }

@@ -1,15 +1,14 @@
--- The lines so far were acted on, and so many of them did nothing.
-use Rattle.std.proofs.Common.{◌≤◌, take}
+-- The lines so far were acted on, and these of them did nothing.
+use Rattle.std.proofs.Common.{take}
 use Rattle.cx_desk.specs.Held.{handlers_of}
 use Rattle.cx_world_start.specs.cx_run.specs.Schedules.{after_lines}
 use Rattle.cx_world_start.specs.cx_run.specs.Worlds.{World as RunWorld}
 use Rattle.cx_world.specs.Carried.{MakesAlone}
-use Rattle.cx_world.specs.Idle.{CountsIdle}
+use Rattle.cx_world.specs.Idle.{FindsIdle}
 use Rattle.cx_world.proofs.runs.act_all.Given as goal
 
 abbrev pub invariant-loop-line : goal.invariant-loop-line
 invariant-loop-line g l = record {
   acts : MakesAlone (handlers_of l.fn.desk) l.initial.world l.world (λ (w : RunWorld). after_lines w (take l.line-index l.lines));
-  idle : CountsIdle (handlers_of l.fn.desk) l.initial.world (take l.line-index l.lines) l.idle;
-  few : l.idle ≤ l.line-index;
+  idle : FindsIdle (handlers_of l.fn.desk) l.initial.world (take l.line-index l.lines) l.idle;
 }
