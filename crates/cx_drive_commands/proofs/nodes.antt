@@ -1,3 +1,3 @@
-mod Causes
-mod Stopping
+pub mod Causes
+pub mod Stopping
 pub mod Telling

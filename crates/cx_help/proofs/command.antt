@@ -1,1 +1,1 @@
-mod Seen
+pub mod Seen

@@ -2,10 +2,10 @@
 //! What a replay writes is legal to an auditor.
 #![tactic(auto)]
 
-mod entered_laws;
-mod legal_laws;
+mod entries_laws;
+mod journals_laws;
 mod replays;
 
-pub use entered_laws::entered_laws;
-pub use legal_laws::legal_laws;
+pub use entries_laws::entered_laws;
+pub use journals_laws::legal_laws;
 pub use replays::audited_replay;

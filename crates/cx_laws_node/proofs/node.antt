@@ -1,2 +1,2 @@
-mod Entities
-mod Monitors
+pub mod Entities
+pub mod Monitors

@@ -1,4 +1,4 @@
-mod MonClientSaves
-mod ClientSaves
-mod DaemonSaves
-mod IncomingSaves
+pub mod MonClientSaves
+pub mod ClientSaves
+pub mod DaemonSaves
+pub mod IncomingSaves

@@ -2,8 +2,8 @@
 //! What a run does at one node is what that node's rule gives on what comes to it alone.
 #![tactic(auto)]
 
-mod node_laws;
-mod saving_laws;
+mod nodes_laws;
+mod saves_laws;
 
-pub use node_laws::node_laws;
-pub use saving_laws::saving_laws;
+pub use nodes_laws::node_laws;
+pub use saves_laws::saving_laws;

@@ -11,6 +11,7 @@ pub mod ClientSays
 pub mod OtherHears
 pub mod Cookies
 pub mod Tells
+pub mod Answering
 pub mod DaemonWalk
 pub mod DaemonNames
 pub mod IncomingLinksStay
@@ -24,3 +25,4 @@ pub mod TruthEvents
 pub mod TruthBeginning
 pub mod Truthful
 pub mod Whole
+pub mod Fronts

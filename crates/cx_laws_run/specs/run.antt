@@ -1,3 +1,4 @@
 pub mod Laws
 pub mod Logins
 pub mod Origins
+pub mod Fronts

@@ -3,7 +3,9 @@
 ghost use Rattle.std.specs.Prelude.{ℕ, Bool, List, None};
 ghost use Rattle.cx_base.specs.declared.kinds.Access.{Access};
 ghost use Rattle.cx_desk.specs.Handlers.{Handlers};
+ghost use Rattle.cx_laws_links.specs.cx_laws_tickets.specs.authorize.Expiring.{ExpireAtReadings};
 ghost use Rattle.cx_laws_links.specs.cx_laws_tickets.specs.chain.Chain.{KeepsGenerations};
+ghost use Rattle.cx_laws_links.specs.cx_laws_tickets.specs.chain.Granted.{AreOfKeyring};
 ghost use Rattle.cx_laws_links.specs.cx_laws_tickets.specs.cx_laws_keys.specs.keys.LooksLast.{LooksLast};
 ghost use Rattle.cx_laws_run.specs.run.Laws.{KeepsLaws, KeepsTickets, MayHappen};
 ghost use Rattle.cx_laws_run.specs.run.Logins.{LogIn, Stands};
@@ -22,11 +24,14 @@ ghost use Rattle.cx_steps.specs.Premises.{IsFresh, IsSound};
 /// monitor is issued at a turn of a link, on which a proof was found equal under the own secret of the ticket's entity, over the challenge that was drawn
 /// on that link for it: at that very turn, or, of a ticket for another service than AUTH, at one behind, once the link is open, under the entity's global id.
 /// The generations of each service go on from one to the next, over rotations, restarts and saves that fail, and one id of them has one key for ever; each
-/// ticket is sealed under the generation that it names, which was saved and current when it was made, and is for an entity of the run, with the caps that this
-/// one has for the service.
+/// ticket is sealed under the generation that it names, which was saved and current when it was made. Each was made at the reading of its event and expires one
+/// life later, and is for an entity of the keyring, with the caps that this one has there for the service; and one that a daemon refuses as expired is so at the
+/// reading of that event.
 pub fn standing_laws()
     ensures events { (setup : Setup) (hs : List Happening) → Stands setup hs }
     ensures generations { (setup : Setup) (hs : List Happening) → KeepsGenerations setup hs }
+    ensures granted { (setup : Setup) (hs : List Happening) → AreOfKeyring setup (points setup hs) }
+    ensures expiring { (setup : Setup) (hs : List Happening) → ExpireAtReadings (points setup hs) }
     // Where no daemon is told a view by hand, each look is at what the daemon fetched last, since it began anew.
     ensures looks { (setup : Setup) (hs : List Happening) → AreUntold hs → LooksLast (journal_since setup hs) }
     // So of the run of every schedule.

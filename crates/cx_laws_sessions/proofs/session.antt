@@ -9,3 +9,4 @@ pub mod Daemons
 pub mod Clients
 pub mod Monitors
 pub mod Runs
+pub mod Entering

@@ -4,9 +4,9 @@
 #![tactic(auto)]
 
 mod queues_laws;
-mod session_laws;
-mod waiting_laws;
+mod sessions_laws;
+mod waits_laws;
 
 pub use queues_laws::queue_laws;
-pub use session_laws::session_laws;
-pub use waiting_laws::waiting_laws;
+pub use sessions_laws::session_laws;
+pub use waits_laws::waiting_laws;

@@ -2,10 +2,10 @@
 //! The text of a journal, read again: it says what is told of its entries, and nothing else.
 #![tactic(auto)]
 
-mod printed_laws;
-mod told_laws;
+mod lines_laws;
+mod prints_laws;
 mod types;
 
-pub use printed_laws::printed_laws;
-pub use told_laws::told_laws;
+pub use lines_laws::told_laws;
+pub use prints_laws::printed_laws;
 pub use types::have_types;

@@ -13,3 +13,4 @@ pub mod DaemonRows
 pub mod DaemonStep
 pub mod Viewing
 pub mod Opening
+pub mod Expiring

@@ -4,3 +4,4 @@ pub mod Steps
 pub mod NoDaemonTickets
 pub mod Points
 pub mod One
+pub mod Granting

@@ -4,8 +4,8 @@
 //! Coverage by time: how long a daemon holds the generations of its service's unexpired tickets.
 #![tactic(auto)]
 
-mod authorize_laws;
-mod chain_laws;
+mod authorizers_laws;
+mod chains_laws;
 
-pub use authorize_laws::authorize_laws;
-pub use chain_laws::chain_laws;
+pub use authorizers_laws::authorize_laws;
+pub use chains_laws::chain_laws;

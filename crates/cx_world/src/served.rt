@@ -9,7 +9,8 @@ ghost use Rattle.cx_world.specs.Idle.{idle_lines};
 use crate::Report;
 use cx_desk::Desk;
 use cx_laws_run::{
-    cover_laws, journal_laws, login_laws, origin_laws, session_laws, standing_laws, whole_laws,
+    cover_laws, front_laws, journal_laws, login_laws, origin_laws, session_laws, standing_laws,
+    truth_laws, whole_laws,
 };
 use cx_schedule::Script;
 use std::alloc::{AllocError, Global};
@@ -25,8 +26,10 @@ pub fn replay(alloc: Global, script: &Script, desk: &Desk) -> Result<Report, All
     login_laws();
     origin_laws();
     session_laws();
+    truth_laws();
     whole_laws();
     cover_laws();
+    front_laws();
     let report = crate::run(alloc, script, desk)?;
     Ok(report)
 }

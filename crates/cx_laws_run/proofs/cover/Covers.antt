@@ -19,7 +19,7 @@ module _ (setup : Setup) (hs : List Happening) (m : MayHappen setup hs) (replied
   lives = begins-life setup m.begins
 
   -- each is of a moment of the monitor
-  of-moments : AreOfMoments (points setup hs)
+  pub of-moments : AreOfMoments (points setup hs)
   of-moments =
       let least : 1000000000 ≤ (first_state setup).life = lives.0 in
       let some : 0 < (first_state setup).life = omega arith in

@@ -2,10 +2,11 @@
 use Rattle.std.proofs.Common.{ℕ, List, None, true}
 use Rattle.cx_base.specs.Names.{Name}
 use Rattle.cx_desk.specs.Handlers.{Handlers}
-use Rattle.cx_laws_run.proofs.cover.Covers.{covers, paces}
+use Rattle.cx_laws_run.proofs.cover.Covers.{covers, of-moments, paces}
 use Rattle.cx_laws_run.proofs.cover.MonitorEvents.{monitor-step}
 use Rattle.cx_laws_run.proofs.cover.RunBeginning.{any-replied}
 use Rattle.cx_laws_run.specs.cx_laws_tickets.specs.fetch.Covered.{FetchesPaced, IsCovered, IsSteadyFor}
+use Rattle.cx_laws_run.specs.cx_laws_tickets.specs.fetch.Fetches.{AreOfMoments}
 use Rattle.cx_laws_run.proofs.run.Schedules.{may-happen}
 use Rattle.cx_laws_run.specs.cx_laws_tickets.proofs.fetch.RepliedMoments.{AreReplied}
 use Rattle.cx_laws_run.proofs.run.Whole.{run_of}
@@ -29,6 +30,15 @@ any-covered setup hs m sound fresh = covers setup hs m (run-replied setup hs m s
 pub any-paced : (setup : Setup) (hs : List Happening) → MayHappen setup hs → IsSound (leaked_of setup) (log_since setup hs) → IsFresh (log_since setup hs)
     → FetchesPaced setup (points setup hs)
 any-paced setup hs m sound fresh = paces setup hs m (run-replied setup hs m sound fresh)
+
+pub any-moments : (setup : Setup) (hs : List Happening) → MayHappen setup hs → IsSound (leaked_of setup) (log_since setup hs) → IsFresh (log_since setup hs)
+    → AreOfMoments (points setup hs)
+any-moments setup hs m sound fresh = of-moments setup hs m (run-replied setup hs m sound fresh)
+
+pub schedule-moments : (handlers : Handlers) (bytes : List ℕ) (script : List Numbered) → Lines bytes script → IsFoundOf handlers script None
+    → AreOfMoments (points (setup_of handlers script) (trace handlers script))
+schedule-moments handlers bytes script said found =
+    any-moments (setup_of handlers script) (trace handlers script) (may-happen handlers bytes script said) found.0 found.1
 
 pub schedule-covered : (handlers : Handlers) (bytes : List ℕ) (script : List Numbered) → Lines bytes script → IsFoundOf handlers script None
     → (daemon : Name) → IsSteadyFor daemon (trace handlers script) → IsCovered (setup_of handlers script) daemon (points (setup_of handlers script) (trace handlers script))

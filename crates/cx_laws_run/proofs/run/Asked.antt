@@ -33,7 +33,7 @@ use Rattle.cx_laws_links.specs.cx_laws_tickets.specs.cx_run.proofs.Taking.{Takes
 use Rattle.cx_laws_links.specs.cx_laws_tickets.specs.cx_run.proofs.Turning.{found-number, put-found}
 use Rattle.cx_laws_links.specs.cx_laws_tickets.specs.cx_run.specs.Happenings.{EntityNode, Happening, Nodes, Stepped, entity_of, entity_rule, entity_steps, failed_out, monitor_steps, stays, steps}
 use Rattle.cx_laws_links.specs.cx_laws_tickets.specs.cx_run.specs.Opening.{Declared, Setup, nodes_of, principal_of, secret_drawn, secrets_drawn}
-use Rattle.cx_laws_links.specs.cx_laws_tickets.specs.cx_run.specs.Points.{EachPoint, Point, Since, entries_at, logged_until, nodes_past, onto, points, points_onto, seals_at, stepped_at}
+use Rattle.cx_laws_links.specs.cx_laws_tickets.specs.cx_run.specs.Points.{EachPoint, Point, Since, entries_at, logged_until, nodes_past, onto, opens_at, points, points_onto, seals_at, stepped_at}
 use Rattle.cx_steps.specs.Onto.{SomeOf}
 use Rattle.cx_steps.specs.declared.effects.Effects.{Effects}
 use Rattle.cx_steps.specs.declared.seals.DrawMark.{DrawMark}
@@ -46,7 +46,7 @@ use Rattle.cx_laws_links.specs.cx_laws_tickets.specs.cx_laws_keys.proofs.login.H
 use Rattle.cx_laws_links.specs.cx_laws_tickets.proofs.chain.NoDaemonTickets.{entity-none}
 use Rattle.cx_laws_links.specs.cx_laws_tickets.specs.cx_laws_keys.proofs.login.Proving.{Bears, IsBehind, IsBehindProof, IsBehindReply, IsRinged, LinkTells, RowOf, RowTells, StageTells, none-issued, step-tells, turned-tells}
 use Rattle.cx_laws_run.proofs.run.Opening.{nothing-in}
-use Rattle.cx_laws_run.specs.run.Logins.{Asks, IsAskedFor, IsRenewal, Offers, Proves, Stands, proof_of}
+use Rattle.cx_laws_run.specs.run.Logins.{Asks, ChecksOn, IsAskedFor, IsRenewal, Offers, Proves, Stands, UncheckedSince, proof_of}
 
 -- ---- the entities' secrets
 
@@ -99,10 +99,10 @@ module _ (P Q : Link MonitorStage → Type 0) (number : ℕ) (other : (l : Link 
 
 -- ---- what went before a link
 
--- behind these points: the secret is the entity's own, and the challenge was drawn on the link that has this number now
+-- behind these points: the secret is the entity's own, and the challenge was drawn on the link that has this number now, on which no proof was found equal since
 record IsWaiting (setup : Setup) (past : List Point) (number : ℕ) (offered : Offered) : Type 0 where
   theirs : IsTheirs setup offered.offer.secret offered.offer.name
-  drew : Since node.Monitor number (λ _ at. Offers number offered at) past
+  drew : UncheckedSince number (λ _ at. Offers number offered at) past
 
 -- a proof of this entity was found equal on it
 abbrev WasProven : Setup → List Point → ℕ → Name → Type 0
@@ -125,20 +125,25 @@ record AllPreceded (setup : Setup) (past : List Point) (nodes : Nodes) : Type 0 
   ring : nodes.monitor.own.server.ring ≡ map principal_of setup.entities
   links : AllByRecursion (LinkPreceded setup past) nodes.monitor.links
 
--- what was so since the link opened is so at a later point
-abbrev IsLater : ℕ → List Point → Point → Type 1
-IsLater number past p = (P : List Point → Point → Type 0) → Since node.Monitor number P past → Since node.Monitor number P (p ∷ past)
+-- a point opens no link of this number, and nothing is found equal on it there
+record IsCalm (number : ℕ) (p : Point) : Type 0 where
+  opens : opens_at node.Monitor number p ≡ false
+  unchecked : ChecksOn number p → ⊥
 
--- so is a link at a point that opens none of its number
-stage-stays : (setup : Setup) (past : List Point) (p : Point) (number : ℕ) (stage : MonitorStage) → IsLater number past p
+-- so it is where no link is turned
+calm-unturned : (number : ℕ) (p : Point) → opens_at node.Monitor number p ≡ false → (p.happening.input ≡ Turn number → ⊥) → IsCalm number p
+calm-unturned number p opens unturned = record { opens = opens; unchecked = λ c. unturned c.turn }
+
+-- what was so of a link is so behind a calm point
+stage-stays : (setup : Setup) (past : List Point) (p : Point) (number : ℕ) (stage : MonitorStage) → IsCalm number p
     → StagePreceded setup past number stage → StagePreceded setup (p ∷ past) number stage
 stage-stays setup past p number AwaitsBanner f h = tt
 stage-stays setup past p number AwaitsHello f h = tt
 stage-stays setup past p number AwaitsRequest f h = tt
-stage-stays setup past p number (AwaitsProof offered) f h = record { theirs = h.theirs; drew = f (λ _ at. Offers number offered at) h.drew }
-stage-stays setup past p number (AwaitsSignature s bearer) f h = f (Proves setup number bearer.name) h
-stage-stays setup past p number (AwaitsIdent s bearer) f h = f (Proves setup number bearer.name) h
-stage-stays setup past p number (Open s bearer) f h = f (Proves setup number bearer.name) h
+stage-stays setup past p number (AwaitsProof offered) f h = record { theirs = h.theirs; drew = inr (f.opens, f.unchecked, h.drew) }
+stage-stays setup past p number (AwaitsSignature s bearer) f h = inr (f.opens, h)
+stage-stays setup past p number (AwaitsIdent s bearer) f h = inr (f.opens, h)
+stage-stays setup past p number (Open s bearer) f h = inr (f.opens, h)
 
 -- ---- a save that fails
 
@@ -168,6 +173,7 @@ record ComesTo (o : Outcome MonitorNode) (s : Stepped) : Type 0 where
   links : s.nodes.monitor.links ≡ o.state.links
   drawn : (mark : DrawMark) → LogsDraw mark o.out.seals → LogsDraw mark s.out.seals
   first : (e : SealEntry) → stays e ≡ true → BeginsWith e o.out.seals → BeginsWith e s.out.seals
+  silent : o.out.seals ≡ [] → s.out.seals ≡ []
   issued : (t : Issued) → Contains s.out.entries (journal.Issued t) → Contains o.out.entries (journal.Issued t)
 
 module _ (nodes : Nodes) (o : Outcome MonitorNode) where
@@ -177,6 +183,7 @@ module _ (nodes : Nodes) (o : Outcome MonitorNode) where
     links = links;
     drawn = λ mark h. subst (λ (e : Effects). LogsDraw mark e.seals) (sym out) (draws-stay mark o.out.seals h);
     first = λ e kept (rest, is). (filter stays rest, ap (λ (e : Effects). e.seals) out ∙ ap (λ (es : List SealEntry). filter stays es) is ∙ filter-first e rest kept);
+    silent = λ none. ap (λ (e : Effects). e.seals) out ∙ ap (λ (es : List SealEntry). filter stays es) none;
     issued = λ t has. absurd (nothing-in (journal.Issued t) (subst (λ (e : Effects). Contains e.entries (journal.Issued t)) out has));
   }
 
@@ -186,6 +193,7 @@ module _ (nodes : Nodes) (o : Outcome MonitorNode) where
     links = links;
     drawn = λ mark h. subst (λ (e : Effects). LogsDraw mark e.seals) (sym out) h;
     first = λ e kept h. subst (λ (x : Effects). BeginsWith e x.seals) (sym out) h;
+    silent = λ none. ap (λ (e : Effects). e.seals) out ∙ none;
     issued = λ t has. subst (λ (e : Effects). Contains e.entries (journal.Issued t)) out has;
   }
 
@@ -289,8 +297,14 @@ module _ (setup : Setup) (past : List Point) (nodes : Nodes) (number reading : �
   abbrev TurnedWell : Outcome MonitorNode → Type 0
   TurnedWell o = (o.state.own.server.ring ≡ nodes.monitor.own.server.ring) × AllByRecursion (LinkPreceded setup (turn_point ∷ past)) o.state.links
 
-  turn-stays : (l : Link MonitorStage) → LinkPreceded setup past l → LinkPreceded setup (turn_point ∷ past) l
-  turn-stays l h = stage-stays setup past turn_point l.number l.stage (λ P s. inr (refl, s)) h
+  -- another link than the one that is turned
+  turn-stays : (l : Link MonitorStage) → (number ≡ l.number → ⊥) → LinkPreceded setup past l → LinkPreceded setup (turn_point ∷ past) l
+  turn-stays l other h = stage-stays setup past turn_point l.number l.stage (calm-unturned l.number turn_point refl (λ is. other (let same : number ≡ l.number = cc in same))) h
+
+  -- any link, where nothing is logged
+  silent-stays : seals_at turn_point ≡ [] → (l : Link MonitorStage) → LinkPreceded setup past l → LinkPreceded setup (turn_point ∷ past) l
+  silent-stays none l h =
+      stage-stays setup past turn_point l.number l.stage (record { opens = refl; unchecked = λ c. let is : [] ≡ seal.Checked c.mark ∷ c.rest = sym none ∙ c.checked in cc }) h
 
   -- the link that goes on in a stage
   module _ (before : Link MonitorStage) (o : Outcome MonitorNode) (found : link_of number nodes.monitor.links ≡ Some before) (ok : AllPreceded setup past nodes)
@@ -324,7 +338,8 @@ module _ (setup : Setup) (past : List Point) (nodes : Nodes) (number reading : �
       → Takes a.link behind → LogsLink a row.seals behind → LinkTells nodes.monitor.own.server.ring a.link.stage row.seals behind
       → AllByRecursion (LinkPreceded setup (turn_point ∷ past)) (links_behind nodes.monitor.links a.link.number row.sends behind)
   row-preceded a row None is at_link ok comes takes logs tells =
-      without-all (LinkPreceded setup past) (LinkPreceded setup (turn_point ∷ past)) a.link.number (λ l ne h. turn-stays l h) nodes.monitor.links ok.links
+      without-all (LinkPreceded setup past) (LinkPreceded setup (turn_point ∷ past)) a.link.number
+      (λ l ne h. turn-stays l (λ same. ne (sym same ∙ sym (found-number number nodes.monitor.links a.link at_link))) h) nodes.monitor.links ok.links
   row-preceded a row (Some l) is at_link ok comes takes logs tells =
       let sent : Link MonitorStage = record l { sent = l.sent ++ row.sends } in
       let numbered : l.number ≡ number = takes.0 ∙ found-number number nodes.monitor.links a.link at_link in
@@ -335,7 +350,7 @@ module _ (setup : Setup) (past : List Point) (nodes : Nodes) (number reading : �
       ap (λ (ls : List (Link MonitorStage)). link_of l.number ls) links ∙ put-found sent nodes.monitor.links (filter (λ (k : Link MonitorStage). nat_lt sent.number k.number) nodes.monitor.links) in
       let here : link_of number (nodes_past turn_point).monitor.links ≡ Some sent =
       subst (λ (n : ℕ). link_of n (nodes_past turn_point).monitor.links ≡ Some sent) numbered behind in
-      put-all (LinkPreceded setup past) (LinkPreceded setup (turn_point ∷ past)) l.number (λ k ne h. turn-stays k h) sent nodes.monitor.links refl
+      put-all (LinkPreceded setup past) (LinkPreceded setup (turn_point ∷ past)) l.number (λ k ne h. turn-stays k (λ same. ne (sym same ∙ sym numbered)) h) sent nodes.monitor.links refl
       (subst (λ (n : ℕ). StagePreceded setup (turn_point ∷ past) n l.stage) (sym numbered)
       (goes-preceded a.link (carried_out (noted nodes.monitor) a.link.number true row) at_link ok comes sent a l.stage refl logs tells here)) ok.links
 
@@ -343,10 +358,11 @@ module _ (setup : Setup) (past : List Point) (nodes : Nodes) (number reading : �
       → ComesTo (turns (noted nodes.monitor) a turned) (steps nodes turn_point.happening) → TurnTakes a.link turned → LogsTurn a turned
       → RowOf (RowTells nodes.monitor.own.server.ring a.link.stage) turned → a.own ≡ (noted nodes.monitor).own → TurnedWell (turns (noted nodes.monitor) a turned)
   turned-preceded a Waits at_link ok comes takes logs tells own =
-      (refl, all-map (LinkPreceded setup past) (LinkPreceded setup (turn_point ∷ past)) (λ l h. turn-stays l h) nodes.monitor.links ok.links)
+      (refl, all-map (LinkPreceded setup past) (LinkPreceded setup (turn_point ∷ past)) (silent-stays (comes.silent refl)) nodes.monitor.links ok.links)
   turned-preceded a (Refuses why opened) at_link ok comes takes logs tells own = (
     ap (λ (m : Monitor). m.server.ring) own,
-    without-all (LinkPreceded setup past) (LinkPreceded setup (turn_point ∷ past)) a.link.number (λ l ne h. turn-stays l h) nodes.monitor.links ok.links,
+    without-all (LinkPreceded setup past) (LinkPreceded setup (turn_point ∷ past)) a.link.number
+        (λ l ne h. turn-stays l (λ same. ne (sym same ∙ sym (found-number number nodes.monitor.links a.link at_link))) h) nodes.monitor.links ok.links,
   )
   turned-preceded a (Handles row) at_link ok comes takes logs tells own =
       (tells.ring_stays, row-preceded a row row.link refl at_link ok comes takes logs tells.link)
@@ -354,7 +370,7 @@ module _ (setup : Setup) (past : List Point) (nodes : Nodes) (number reading : �
   link-preceded : (found : Option (Link MonitorStage)) → link_of number nodes.monitor.links ≡ found → AllPreceded setup past nodes
       → ComesTo (turn (noted nodes.monitor) reading block found) (steps nodes turn_point.happening) → TurnedWell (turn (noted nodes.monitor) reading block found)
   link-preceded None is ok comes =
-      (refl, all-map (LinkPreceded setup past) (LinkPreceded setup (turn_point ∷ past)) (λ l h. turn-stays l h) nodes.monitor.links ok.links)
+      (refl, all-map (LinkPreceded setup past) (LinkPreceded setup (turn_point ∷ past)) (silent-stays (comes.silent refl)) nodes.monitor.links ok.links)
   link-preceded (Some link) is ok comes =
       let a : MonitorArrival = arrival node.Monitor (noted nodes.monitor).own link reading block in
       turned-preceded a (turned_at a link.stage) is ok comes (monitor-takes a link.stage) (monitor-logs a) (turned-tells a link.stage) refl
@@ -371,7 +387,7 @@ module _ (setup : Setup) (past : List Point) (nodes : Nodes) (reading : ℕ) (bl
   -- the links of other numbers than that of a link that opens
   stays-unopened : (number : ℕ) (to : Option _) (l : Link MonitorStage) → (l.number ≡ number → ⊥) → LinkPreceded setup past l → PrecededBehind (Opened number to) l
   stays-unopened number to l ne h =
-      stage-stays setup past (point_of (Opened number to)) l.number l.stage (λ P s. inr (by_test (number == l.number) refl, s)) h
+      stage-stays setup past (point_of (Opened number to)) l.number l.stage (calm-unturned l.number (point_of (Opened number to)) (by_test (number == l.number) refl) (λ is. cc)) h
     where
       by_test : (t : Bool) → (number == l.number) ≡ t → (number == l.number) ≡ false
       by_test true is = absurd (ne (sym (eqb-true number l.number is)))
@@ -395,7 +411,7 @@ module _ (setup : Setup) (past : List Point) (nodes : Nodes) (reading : ℕ) (bl
   bytes-preceded number bytes found is ok = by_found found is
     where
       stays-here : (l : Link MonitorStage) → LinkPreceded setup past l → PrecededBehind (Bytes number bytes) l
-      stays-here l h = stage-stays setup past (point_of (Bytes number bytes)) l.number l.stage (λ P s. inr (refl, s)) h
+      stays-here l h = stage-stays setup past (point_of (Bytes number bytes)) l.number l.stage (calm-unturned l.number (point_of (Bytes number bytes)) refl (λ is. cc)) h
 
       by_found : (found : Option (Link MonitorStage)) → link_of number nodes.monitor.links ≡ found → AllByRecursion (PrecededBehind (Bytes number bytes)) (fed (noted nodes.monitor) bytes found).state.links
       by_found None is = all-map (LinkPreceded setup past) (PrecededBehind (Bytes number bytes)) stays-here nodes.monitor.links ok.links
@@ -421,7 +437,7 @@ module _ (setup : Setup) (past : List Point) (nodes : Nodes) (reading : ℕ) (bl
       by_test false = refl
 
   -- where no link opens and none is turned
-  same-links : (input : Input) → ((n : ℕ) → IsLater n past (point_of input)) → AllPreceded setup past nodes → AllByRecursion (PrecededBehind input) nodes.monitor.links
+  same-links : (input : Input) → ((n : ℕ) → IsCalm n (point_of input)) → AllPreceded setup past nodes → AllByRecursion (PrecededBehind input) nodes.monitor.links
   same-links input f ok =
       all-map (LinkPreceded setup past) (PrecededBehind input) (λ l h. stage-stays setup past (point_of input) l.number l.stage (f l.number) h) nodes.monitor.links ok.links
 
@@ -434,13 +450,13 @@ module _ (setup : Setup) (past : List Point) (nodes : Nodes) (reading : ℕ) (bl
   ring-and-links (Gone number) ok = (
     refl,
     without-all (LinkPreceded setup past) (PrecededBehind (Gone number)) number
-        (λ l ne h. stage-stays setup past (point_of (Gone number)) l.number l.stage (λ P s. inr (refl, s)) h) nodes.monitor.links ok.links,
+        (λ l ne h. stage-stays setup past (point_of (Gone number)) l.number l.stage (calm-unturned l.number (point_of (Gone number)) refl (λ is. cc)) h) nodes.monitor.links ok.links,
   )
   ring-and-links Restart ok = (refl, tt)
-  ring-and-links (NoLink to) ok = (refl, same-links (NoLink to) (λ n P s. inr (refl, s)) ok)
-  ring-and-links (Look view) ok = (refl, same-links (Look view) (λ n P s. inr (refl, s)) ok)
-  ring-and-links Tick ok = (refl, same-links Tick (λ n P s. inr (refl, s)) ok)
-  ring-and-links (Submit said) ok = (refl, same-links (Submit said) (λ n P s. inr (refl, s)) ok)
+  ring-and-links (NoLink to) ok = (refl, same-links (NoLink to) (λ n. calm-unturned n (point_of (NoLink to)) refl (λ is. cc)) ok)
+  ring-and-links (Look view) ok = (refl, same-links (Look view) (λ n. calm-unturned n (point_of (Look view)) refl (λ is. cc)) ok)
+  ring-and-links Tick ok = (refl, same-links Tick (λ n. calm-unturned n (point_of Tick) refl (λ is. cc)) ok)
+  ring-and-links (Submit said) ok = (refl, same-links (Submit said) (λ n. calm-unturned n (point_of (Submit said)) refl (λ is. cc)) ok)
 
   monitor-preceded : (input : Input) → AllPreceded setup past nodes → AllPreceded setup (point_of input ∷ past) (nodes_past (point_of input))
   monitor-preceded input ok =
@@ -477,7 +493,8 @@ module _ (setup : Setup) (past : List Point) (nodes : Nodes) (input : Input) (re
     where
       links : AllByRecursion (LinkPreceded setup (point_at (node.Entity name) ∷ past)) nodes.monitor.links
       links = all-map (LinkPreceded setup past) (LinkPreceded setup (point_at (node.Entity name) ∷ past))
-          (λ l h. stage-stays setup past (point_at (node.Entity name)) l.number l.stage (λ P s. inr (refl, s)) h) nodes.monitor.links ok.links
+          (λ l h. stage-stays setup past (point_at (node.Entity name)) l.number l.stage (record { opens = refl; unchecked = λ c. let is : node.Entity name ≡ node.Monitor = c.monitor in cc }) h)
+          nodes.monitor.links ok.links
 
       by_found : (found : Option EntityNode) → AllPreceded setup (point_at (node.Entity name) ∷ past) (entity_steps nodes (point_at (node.Entity name)).happening name found).nodes
       by_found None = record { ring = ok.ring; links = links }

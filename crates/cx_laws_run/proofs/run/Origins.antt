@@ -186,6 +186,19 @@ module _ (setup : Setup) (session : Admitted) (x : Authority) (name : Name) (num
         own = own ∙ sym daemon;
         on = refl;
         lists = b.lists;
+        answered = record {
+          state = d;
+          of = ap (λ (n : Name). entity_of n p.nodes) daemon ∙ k.found;
+          link = k.gets.turn.link;
+          found = k.gets.turn.found;
+          awaited = k.gets.authorized.awaited;
+          stage = k.gets.turn.stage_is ∙ ap AsAcceptor k.gets.authorized.stage_is;
+          said = x.ticket;
+          shown = k.gets.authorized.shown;
+          entity = sym b.entity;
+          gid = sym b.gid;
+          caps = sym b.caps;
+        };
       }
 
   authorized-since : (past : List Point) → EachPoint (Knows setup) past → EachPoint (Asks setup) past → EachPoint (LogsIn setup) past

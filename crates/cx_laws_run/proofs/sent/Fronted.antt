@@ -65,7 +65,7 @@ no-one x e = cc
 -- ---- what is sent
 
 -- what was sent by this client under this cookie is among all that it sent under it
-sent-there : (cookie : ℕ) (client daemon : Name) (seq : ℕ) (operation : Operation) (J : List Entry)
+pub sent-there : (cookie : ℕ) (client daemon : Name) (seq : ℕ) (operation : Operation) (J : List Entry)
     → Contains J (journal.Sent (record { client = client; daemon = daemon; cookie = cookie; seq = seq; operation = operation })) → Contains (filter_map (sent_under cookie client) J) (seq, operation)
 sent-there cookie client daemon seq operation [] has = absurd (omega (arith, has.1))
 sent-there cookie client daemon seq operation (x ∷ J) has =

@@ -73,6 +73,25 @@ above-start (y ∷ xs) last x run has = by_place (cons-cases y xs x has) (λ lat
         omega (arith, number, its)
     by_place (inr later) rest = let above : last < x.0 + length xs = rest later in omega (arith, above)
 
+-- two of one number are one
+pub same-number : (xs : Asks) (last : ℕ) (x y : ℕ × Operation) → IsRun last xs → Contains xs x → Contains xs y → x.0 ≡ y.0 → x ≡ y
+same-number [] last x y run has_x has_y same = absurd (none-there x has_x)
+same-number (z ∷ xs) last x y run has_x has_y same = by_place (cons-cases z xs x has_x) (cons-cases z xs y has_y) (λ later_x later_y. same-number xs last x y run.1 later_x later_y same)
+  where
+    by_place : (z ≡ x) ⊎ Contains xs x → (z ≡ y) ⊎ Contains xs y → (Contains xs x → Contains xs y → x ≡ y) → x ≡ y
+    by_place (inl first_x) (inl first_y) rest = sym first_x ∙ first_y
+    by_place (inl first_x) (inr later_y) rest =
+        let number : z.0 + length xs ≡ last = run.0 in
+        let its : z.0 ≡ x.0 = ap (λ (ask : ℕ × Operation). ask.0) first_x in
+        let above : last < y.0 + length xs = above-start xs last y run.1 later_y in
+        absurd (omega (arith, number, its, above, same))
+    by_place (inr later_x) (inl first_y) rest =
+        let number : z.0 + length xs ≡ last = run.0 in
+        let its : z.0 ≡ y.0 = ap (λ (ask : ℕ × Operation). ask.0) first_y in
+        let above : last < x.0 + length xs = above-start xs last x run.1 later_x in
+        absurd (omega (arith, number, its, above, same))
+    by_place (inr later_x) (inr later_y) rest = rest later_x later_y
+
 -- where one has the first number of a run, it is the first of it
 first-of-run : (xs : Asks) (last : ℕ) (x : ℕ × Operation) → IsRun last xs → Contains xs x → x.0 + length xs ≡ last + 1 → (rest : Asks) × (xs ≡ x ∷ rest)
 first-of-run [] last x run has first = absurd (none-there x has)

@@ -46,7 +46,7 @@ each-split P J (e ∷ es) f = (
 )
 
 -- what was handled so is among all that was
-handled-there : (cookie : ℕ) (entity : Name) (K before : List Entry) (e : Entry) (after : List Entry) (v : ℕ × Operation) → handled_under cookie entity (K ++ before) e ≡ Some v
+pub handled-there : (cookie : ℕ) (entity : Name) (K before : List Entry) (e : Entry) (after : List Entry) (v : ℕ × Operation) → handled_under cookie entity (K ++ before) e ≡ Some v
     → Contains (all_handled_under cookie entity K (before ++ e ∷ after)) v
 handled-there cookie entity K [] e after v is =
     subst (λ (o : Option (ℕ × Operation)). Contains (cons_option o (all_handled_under cookie entity (K ++ e ∷ []) after)) v)

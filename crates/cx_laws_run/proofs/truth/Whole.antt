@@ -4,6 +4,7 @@ use Rattle.std.specs.Prelude.{None}
 use Rattle.cx_desk.specs.Handlers.{Handlers}
 use Rattle.cx_journal.specs.Legal.{IsLegal}
 use Rattle.cx_journal.specs.Truthful.{IsTruthful}
+use Rattle.cx_laws_run.specs.cx_laws_sessions.proofs.queues.Cookies.{cookies-numbered}
 use Rattle.cx_laws_run.specs.cx_laws_sessions.proofs.session.Runs.{all-enforced, all-in-session, schedules-in-session}
 use Rattle.cx_laws_run.specs.cx_laws_sessions.specs.session.Serving.{serves}
 use Rattle.cx_laws_run.proofs.run.Happening.{any-law}
@@ -21,11 +22,23 @@ use Rattle.cx_steps.specs.Premises.{IsFresh, IsSound}
 use Rattle.cx_laws_run.proofs.sent.Sending.{trace-fits}
 use Rattle.cx_laws_run.proofs.sent.Whole.{any-ordered}
 use Rattle.cx_laws_run.specs.sent.Fitting.{AreFit}
+use Rattle.cx_laws_run.proofs.truth.Answering.{answers-sent}
 use Rattle.cx_laws_run.proofs.truth.Truthful.{any-truthful}
+use Rattle.cx_laws_run.specs.sent.Answering.{AnswerWhatWasSent}
 
 pub schedule-truthful : (handlers : Handlers) (bytes : List ℕ) (script : List Numbered) → Lines bytes script → IsFoundOf handlers script None → IsTruthful (run_journal handlers script)
 schedule-truthful handlers bytes script said found =
     any-truthful (setup_of handlers script) (trace handlers script) (may-happen handlers bytes script said) (trace-fits handlers bytes script said) found.0 found.1
+
+-- each answer is of the operation that its client sent under its number
+pub any-answered : (setup : Setup) (hs : List Happening) → MayHappen setup hs → AreFit hs → IsSound (leaked_of setup) (log_since setup hs) → IsFresh (log_since setup hs)
+    → AnswerWhatWasSent (journal_since setup hs)
+any-answered setup hs m fits sound fresh =
+    answers-sent (journal_since setup hs) (any-ordered setup hs m fits sound fresh) (cookies-numbered setup hs fresh) (any-truthful setup hs m fits sound fresh)
+
+pub schedule-answered : (handlers : Handlers) (bytes : List ℕ) (script : List Numbered) → Lines bytes script → IsFoundOf handlers script None → AnswerWhatWasSent (run_journal handlers script)
+schedule-answered handlers bytes script said found =
+    any-answered (setup_of handlers script) (trace handlers script) (may-happen handlers bytes script said) (trace-fits handlers bytes script said) found.0 found.1
 
 -- the laws that a journal shows by itself
 any-legal : (setup : Setup) (hs : List Happening) → MayHappen setup hs → AreFit hs → IsSound (leaked_of setup) (log_since setup hs) → IsFresh (log_since setup hs) → IsLegal (journal_since setup hs)

@@ -1,5 +1,5 @@
 -- Who asked for a ticket: what is said of each point at which one is issued.
-use Rattle.std.specs.Prelude.{◌≡◌, ◌≢◌, ◌⊎◌, ℕ, List, ◌∷◌, ◌++◌, Contains, Some}
+use Rattle.std.specs.Prelude.{◌≡◌, ◌≢◌, ◌⊎◌, ℕ, false, List, [], ◌∷◌, ◌++◌, Contains, Some}
 use Rattle.std.specs.Int.{w64, to_le_bytes}
 use Rattle.cx_base.specs.Names.{Name}
 use Rattle.cx_base.specs.declared.kinds.EntityType.TheVariants.{Auth}
@@ -17,7 +17,7 @@ use Rattle.cx_laws_links.specs.cx_laws_tickets.specs.cx_rules.specs.Secured.{Sec
 use Rattle.cx_laws_links.specs.cx_laws_tickets.specs.cx_rules.specs.declared.responses.Bearer.{Bearer}
 use Rattle.cx_laws_links.specs.cx_laws_tickets.specs.cx_run.specs.Happenings.{Happening}
 use Rattle.cx_laws_links.specs.cx_laws_tickets.specs.cx_run.specs.Opening.{Setup, leaked_of}
-use Rattle.cx_laws_links.specs.cx_laws_tickets.specs.cx_run.specs.Points.{EachPoint, Point, Since, entries_at, logged_until, nodes_past, points, seals_at}
+use Rattle.cx_laws_links.specs.cx_laws_tickets.specs.cx_run.specs.Points.{EachPoint, Point, Since, entries_at, logged_until, nodes_past, opens_at, points, seals_at}
 use Rattle.cx_steps.specs.Onto.{SomeOf}
 use Rattle.cx_steps.specs.Premises.{Seals, Signs}
 use Rattle.cx_steps.specs.declared.seals.DrawMark.TheVariants as draw
@@ -42,8 +42,22 @@ pub record Offers (number : ℕ) (offered : Offered) (at : Point) : Type 0 where
   pub found : link_of number (nodes_past at).monitor.links ≡ Some link
   pub stage : link.stage ≡ AwaitsProof offered
 
+-- a turn of the monitor's link of this number which logs first that something was found equal
+pub record ChecksOn (number : ℕ) (p : Point) : Type 0 where
+  pub monitor : p.happening.node ≡ node.Monitor
+  pub turn : p.happening.input ≡ Turn number
+  pub mark : SealMark
+  pub rest : List SealEntry
+  pub checked : seals_at p ≡ seal.Checked mark ∷ rest
+
+-- at one of these points, and since then no link of this number was opened at the monitor, and nothing was found equal on it: so it is still that link, and no proof was
+-- found equal on it yet
+abbrev pub UncheckedSince : ℕ → (List Point → Point → Type 0) → List Point → Type 0
+UncheckedSince number P [] = ⊥
+UncheckedSince number P (p ∷ older) = P older p ⊎ ((opens_at node.Monitor number p ≡ false) × (ChecksOn number p → ⊥) × UncheckedSince number P older)
+
 -- the turn of the monitor's link of this number at which a proof was found equal, under the secret that was drawn as this entity's own, over the
--- challenge that was drawn on that link and offered to this entity
+-- challenge that was drawn on that link and offered to this entity; and the first since that draw: so no challenge lets in twice
 pub record Proves (setup : Setup) (number : ℕ) (name : Name) (older : List Point) (p : Point) : Type 0 where
   pub monitor : p.happening.node ≡ node.Monitor
   pub turn : p.happening.input ≡ Turn number
@@ -53,7 +67,7 @@ pub record Proves (setup : Setup) (number : ℕ) (name : Name) (older : List Poi
   pub stage : link.stage ≡ AwaitsProof offered
   pub named : offered.offer.name ≡ name
   pub secret : SomeOf (λ (at : Logged). at.entry ≡ seal.Drawn (draw.Principal offered.offer.secret name)) (logged_until setup older)
-  pub drew : Since node.Monitor number (λ _ at. Offers number offered at) older
+  pub drew : UncheckedSince number (λ _ at. Offers number offered at) older
   pub client_challenge : ℕ
   pub rest : List SealEntry
   pub checked : seals_at p ≡ seal.Checked (proof_of offered.offer client_challenge) ∷ rest

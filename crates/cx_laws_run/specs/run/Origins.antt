@@ -1,6 +1,9 @@
 -- To what a session that is admitted or resumed goes back: to the authorizer that was judged on its link, to the ticket's issue, to the proof of that
 -- login, and to the entity's own node.
 use Rattle.std.specs.Prelude.{◌≡◌, ◌==◌, ◌&&◌, ◌⊎◌, ℕ, Bool, true, false, List, [], ◌∷◌, Contains, None, Some}
+use Rattle.cx_laws_links.specs.cx_laws_tickets.specs.authorize.Admission.{IsShown}
+use Rattle.cx_laws_links.specs.cx_laws_tickets.specs.cx_authorize.specs.Daemon.{Awaited}
+use Rattle.cx_laws_links.specs.cx_laws_tickets.specs.cx_sealed.specs.declared.service_ticket.ServiceTicket.{ServiceTicket}
 use Rattle.cx_base.specs.declared.nodes.NodeName.{NodeName}
 use Rattle.cx_base.specs.declared.nodes.NodeName.TheVariants as node
 use Rattle.cx_journal.specs.Backed.{Backs}
@@ -9,9 +12,13 @@ use Rattle.cx_journal.specs.declared.entries.Admitted.{Admitted}
 use Rattle.cx_journal.specs.declared.entries.Entry.TheVariants as entry
 use Rattle.cx_journal.specs.declared.entries.Issued.{Issued}
 use Rattle.cx_journal.specs.declared.entries.Looked.{Looked}
+use Rattle.cx_laws_links.specs.cx_laws_tickets.specs.cx_rules.specs.Acceptor.{AwaitsProof}
 use Rattle.cx_laws_links.specs.cx_laws_tickets.specs.cx_rules.specs.Inputs.{Input, Opened, NoLink, Bytes, Turn, Gone, Look, Tick, Submit, Restart}
+use Rattle.cx_laws_links.specs.cx_laws_tickets.specs.cx_rules.specs.Links.{Link, link_of}
+use Rattle.cx_laws_links.specs.cx_laws_tickets.specs.cx_rules_session.specs.DaemonRule.{AsAcceptor, DaemonStage, DaemonState}
+use Rattle.cx_laws_links.specs.cx_laws_tickets.specs.cx_run.specs.Happenings.{OfDaemon, entity_of}
 use Rattle.cx_laws_links.specs.cx_laws_tickets.specs.cx_run.specs.Opening.{Setup, leaked_of}
-use Rattle.cx_laws_links.specs.cx_laws_tickets.specs.cx_run.specs.Points.{Before, EachPoint, Point, entries_at}
+use Rattle.cx_laws_links.specs.cx_laws_tickets.specs.cx_run.specs.Points.{Before, EachPoint, Point, entries_at, seals_at}
 use Rattle.cx_laws_links.specs.cx_laws_tickets.specs.cx_run.specs.Wires.{same_node}
 use Rattle.cx_laws_run.specs.run.Logins.{IsAskedFor, LogsIn, OwnFrame}
 
@@ -49,8 +56,24 @@ WasAskedFor setup ticket past = Before (λ older p. Contains (entries_at p) (ent
 
 -- ---- the authorizer
 
--- the turn of the daemon's link of this number at which the authorizer with this ticket was judged, at the reading that the session has: by the view at
--- which the daemon looked for that link, which lists the ticket's generation
+-- the second authorizer came on the daemon's link of this number, which had a challenge to be answered; and what the turn logs begins with what opened of it: a ticket
+-- under the key of a generation that the view lists, with the entity, the global id and the caps of this one and good at the reading of the event, and, under that ticket's
+-- own session key, the answer to that very challenge
+pub record IsAnswered (session : Admitted) (ticket : Issued) (number : ℕ) (look : Looked) (p : Point) : Type 0 where
+  pub state : DaemonState
+  pub of : entity_of session.daemon p.nodes ≡ Some (OfDaemon state)
+  pub link : Link DaemonStage
+  pub found : link_of number state.node.links ≡ Some link
+  pub awaited : Awaited
+  pub stage : link.stage ≡ AsAcceptor (AwaitsProof awaited)
+  pub said : ServiceTicket
+  pub shown : IsShown look.view p.happening.reading awaited.challenge said (seals_at p)
+  pub entity : said.name ≡ ticket.entity
+  pub gid : said.gid ≡ ticket.gid
+  pub caps : said.caps ≡ ticket.caps
+
+-- the turn of the daemon's link of this number at which the second authorizer, with this ticket, was judged to answer the challenge of that link, at the reading
+-- that the session has: by the view at which the daemon looked for that link, which lists the ticket's generation
 pub record IsAuthorized (session : Admitted) (ticket : Issued) (number : ℕ) (p : Point) : Type 0 where
   pub daemon : p.happening.node ≡ node.Entity session.daemon
   pub turn : p.happening.input ≡ Turn number
@@ -60,6 +83,7 @@ pub record IsAuthorized (session : Admitted) (ticket : Issued) (number : ℕ) (p
   pub own : look.daemon ≡ session.daemon
   pub on : look.link ≡ number
   pub lists : has_generation look.view.generations ticket.generation ≡ true
+  pub answered : IsAnswered session ticket number look p
 
 -- ---- the session
 

@@ -17,7 +17,7 @@ returns-in_ok-read c =
     let a : CallArrival = arrived (caller c.args.mon_client.now session) c.args.at.now (awaiting_challenge c.args.at.now.number c.args.link c.args.callee c.args.presenting) in
     makes_as abridged_call_link changed a (denied a c.in_ok-read.read) (while_challenged a c.args.callee c.args.presenting c.args.frame.now) c.on_bad_method.result
     (ap (λ (row : CallRow). row_due abridged_call_link row)
-    (read_denied a c.args.frame.now (on_reply_more a c.args.callee c.args.presenting (due 4 auth_reply_more_layout.form c.args.frame.now)) c.in_ok-read.read c.if-frame-eq3.true c.in_ok-read.ensures))
+    (read_denied a c.args.frame.now (on_reply_more a c.args.callee c.args.presenting (due 4 auth_reply_more_layout.form c.args.frame.now)) c.in_ok-read.read c.if-frame-eq-AUTH_BAD_METHOD.true c.in_ok-read.ensures))
     (c.on_bad_method.ensures c.args.link (AwaitsChallenge c.args.callee c.args.presenting) session)
 
 pub returns-in_ok-read-2 : goal.returns-in_ok-read-2
@@ -28,4 +28,4 @@ returns-in_ok-read-2 c =
     makes_as abridged_call_link changed a (on_reply_more a c.args.callee c.args.presenting (due 4 auth_reply_more_layout.form c.args.frame.now))
     (while_challenged a c.args.callee c.args.presenting c.args.frame.now) c.on_reply_more.result
     (ap (λ (row : CallRow). row_due abridged_call_link row)
-    (read_due a c.args.frame.now (on_reply_more a c.args.callee c.args.presenting (due 4 auth_reply_more_layout.form c.args.frame.now)) c.if-frame-eq3.false)) m
+    (read_due a c.args.frame.now (on_reply_more a c.args.callee c.args.presenting (due 4 auth_reply_more_layout.form c.args.frame.now)) c.if-frame-eq-AUTH_BAD_METHOD.false)) m

@@ -21,7 +21,7 @@ returns-in_ok-read c =
     makes_as abridged_call_link changed a (on_missing_features a (payload ident_missing_features_layout.form c.args.frame.now))
     (while_identified a (keys_alone c.args.link.keys) c.args.callee c.args.cookie c.args.frame.now) c.on_missing_features.result
     (ap (λ (row : CallRow). row_due abridged_call_link row) (first_of (c.args.frame.now.tag == 10) (on_missing_features a (payload ident_missing_features_layout.form c.args.frame.now))
-    (on_server_ident a (keys_alone c.args.link.keys) c.args.callee c.args.cookie (due 9 server_ident_layout.form c.args.frame.now)) (same_number c.args.frame.now.tag 10 c.if-frame-eq10.true))) m
+    (on_server_ident a (keys_alone c.args.link.keys) c.args.callee c.args.cookie (due 9 server_ident_layout.form c.args.frame.now)) (same_number c.args.frame.now.tag 10 c.if-frame-eq-IDENT_MISSING_FEATURES.true))) m
 
 pub returns-in_ok-read-2 : goal.returns-in_ok-read-2
 returns-in_ok-read-2 c =
@@ -31,4 +31,4 @@ returns-in_ok-read-2 c =
     makes_as abridged_call_link changed a (on_server_ident a (keys_alone c.args.link.keys) c.args.callee c.args.cookie (due 9 server_ident_layout.form c.args.frame.now))
     (while_identified a (keys_alone c.args.link.keys) c.args.callee c.args.cookie c.args.frame.now) c.on_server_ident.result
     (ap (λ (row : CallRow). row_due abridged_call_link row) (second_of (c.args.frame.now.tag == 10) (on_missing_features a (payload ident_missing_features_layout.form c.args.frame.now))
-    (on_server_ident a (keys_alone c.args.link.keys) c.args.callee c.args.cookie (due 9 server_ident_layout.form c.args.frame.now)) (ne_eqb c.args.frame.now.tag 10 c.if-frame-eq10.false))) m
+    (on_server_ident a (keys_alone c.args.link.keys) c.args.callee c.args.cookie (due 9 server_ident_layout.form c.args.frame.now)) (ne_eqb c.args.frame.now.tag 10 c.if-frame-eq-IDENT_MISSING_FEATURES.false))) m

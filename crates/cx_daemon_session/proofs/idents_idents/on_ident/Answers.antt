@@ -29,7 +29,7 @@ returns-in_ok-came-clause-begun c =
     let second : Bool → Deciding Hosted = λ test. due_behind c.args.opened (if test then reconnect else comes_to due) in
     one-from (done_as c.args.mon_client.now c.in_ok-came.came None)
     (due_behind c.args.opened (on_ident a (keys_alone c.args.link.keys) c.args.owner c.args.frame.now))
-    (is.made ∙ sym (ap first (unequal c.args.frame.now.tag 8 c.if-frame-eq8.false) ∙ ap second (unequal c.args.frame.now.tag 11 c.if-frame-eq11.false)))
+    (is.made ∙ sym (ap first (unequal c.args.frame.now.tag 8 c.if-frame-eq-CLIENT_IDENT.false) ∙ ap second (unequal c.args.frame.now.tag 11 c.if-frame-eq-SESSION_RECONNECT.false)))
 
 pub returns-in_ok-came-clause-stays : goal.returns-in_ok-came-clause-stays
 returns-in_ok-came-clause-stays c =

@@ -10,5 +10,5 @@ pub returns-in_ok-read : goal.returns-in_ok-read
 returns-in_ok-read c =
     let a : MonClientArrival = arrived c.args.mon_client.now c.args.at.now (wired c.args.at.now.number c.args.link (AwaitsChallenge c.args.asked)) in
     makes_as abridged_mon_client_link changed a (denied a c.in_ok-read.read) (while_challenged a c.args.asked c.args.frame.now) c.on_bad_method.result
-    (challenge_denied a c.args.asked c.args.frame.now c.in_ok-read.read c.if-frame-eq3.true c.in_ok-read.ensures)
+    (challenge_denied a c.args.asked c.args.frame.now c.in_ok-read.read c.if-frame-eq-AUTH_BAD_METHOD.true c.in_ok-read.ensures)
     (c.on_bad_method.ensures c.args.link (AwaitsChallenge c.args.asked))

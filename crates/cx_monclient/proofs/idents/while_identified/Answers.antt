@@ -12,5 +12,5 @@ returns-in_ok-read c =
     let a : MonClientArrival = arrived c.args.mon_client.now c.args.at.now (awaiting_ident c.args.at.now.number c.args.link c.args.session) in
     makes_as abridged_mon_client_link changed a (on_missing_features a c.in_ok-read.read) (while_identified a (keys_alone c.args.link.keys) c.args.session c.args.frame.now)
     c.on_missing_features.result
-    (features_missing a (keys_alone c.args.link.keys) c.args.session c.args.frame.now c.in_ok-read.read c.if-frame-eq10.true c.in_ok-read.ensures)
+    (features_missing a (keys_alone c.args.link.keys) c.args.session c.args.frame.now c.in_ok-read.read c.if-frame-eq-IDENT_MISSING_FEATURES.true c.in_ok-read.ensures)
     (c.on_missing_features.ensures c.args.link.ahead (AwaitsIdent (keys_alone c.args.link.keys) c.args.session))

@@ -1,5 +1,0 @@
-use Rattle.cx_laws_text.proofs.told.Legal.{legal-told}
-use Rattle.cx_laws_text.proofs.told_laws.told_laws.Goals as goal
-
-pub returns : goal.returns
-returns c = legal-told
