@@ -10,7 +10,7 @@ ghost use Rattle.cx_run.specs.Runs.{IsFoundOf};
 ghost use Rattle.cx_words.specs.Cutting.{IsShort};
 ghost use Rattle.cx_world.specs.Heads.{IsSchedule};
 
-use crate::legal_laws::legal_laws;
+use crate::journals_laws::legal_laws;
 use cx_audit::{AuditRefusal, Verdict, audit};
 use cx_base::Blob;
 use cx_desk::Desk;

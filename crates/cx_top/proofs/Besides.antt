@@ -9,7 +9,7 @@ use Rattle.cx_help.specs.declared.sights.LineSight.{LineSight}
 use Rattle.cx_lines.specs.declared.lines.Numbered.{Numbered}
 use Rattle.cx_lines.specs.declared.sight.BadWord.{BadWord}
 use Rattle.cx_world.specs.declared.idle.IdleLine.{IdleLine}
-use Rattle.cx_world.specs.replay.Serving.{IsReplayOf, idle_lines, told}
+use Rattle.cx_world.specs.replayed.Serving.{IsReplayOf, idle_lines, told}
 use Rattle.cx_schedule.specs.Files.{Lines}
 use Rattle.cx_words.specs.Cutting.{IsShort, lines_of}
 use Rattle.cx_top.specs.Notes.{schedule_told}

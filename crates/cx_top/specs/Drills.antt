@@ -6,7 +6,7 @@ use Rattle.cx_journal.specs.JournalText.{journal_text}
 use Rattle.cx_journal.specs.declared.entries.Entry.{Entry}
 use Rattle.cx_journal.specs.declared.entries.Entry.TheVariants as entry
 use Rattle.cx_journal.specs.declared.premises.Broken.{Broken}
-use Rattle.cx_world.specs.replay.Serving.{IsReplayOf, idle_lines}
+use Rattle.cx_world.specs.replayed.Serving.{IsReplayOf, idle_lines}
 use Rattle.cx_schedule.specs.Drills.{drill_script}
 use Rattle.cx_top.specs.summary.Summaries.{summary_of, summary_text}
 use Rattle.cx_top.specs.Told.{run_told}

@@ -7,7 +7,7 @@ use Rattle.cx_words.specs.Cutting.{IsShort}
 use Rattle.cx_journal.specs.declared.entries.Entry.{Entry}
 use Rattle.cx_journal.specs.declared.premises.Broken.{Broken}
 use Rattle.cx_journal.specs.JournalText.{journal_text}
-use Rattle.cx_world.specs.replay.Serving.{IsReplayOf, idle_lines, told}
+use Rattle.cx_world.specs.replayed.Serving.{IsReplayOf, idle_lines, told}
 use Rattle.cx_top.specs.Notes.{schedule_told}
 use Rattle.cx_top.specs.Told.{run_told}
 

@@ -96,13 +96,13 @@ side_text Acceptor = codes "the side that it was opened to (a)"
 
 abbrev pub idle_reason_text : IdleReason → List ℕ
 idle_reason_text (NoLink link) = codes "link " <> decimal link <> codes " isn't there"
-idle_reason_text (NothingUnderWay link side) = codes "on link " <> decimal link <> codes " nothing is under way from " <> side_text side
+idle_reason_text (NothingUnderWay link side) = codes "on link " <> decimal link <> codes " " <> side_text side <> codes " has nothing under way"
 idle_reason_text (EndGone link side) = codes "on link " <> decimal link <> codes " " <> side_text side <> codes " is gone"
 idle_reason_text (NoPiece link side place) = codes "on link " <> decimal link <> codes " " <> side_text side <> codes " sent no piece " <> decimal place
-idle_reason_text (BothGone link) = codes "both ends of link " <> decimal link <> codes " are gone"
+idle_reason_text (BothGone link) = codes "link " <> decimal link <> codes " has no end left"
 
 abbrev pub idle_text : IdleLine → List ℕ
-idle_text idle = codes "line " <> decimal idle.number <> codes " of the schedule did nothing: " <> idle_reason_text idle.why
+idle_text idle = codes "line " <> decimal idle.number <> codes " did nothing: " <> idle_reason_text idle.why
 
 abbrev pub idle_line_told : IdleLine → List ℕ
 idle_line_told idle = line_told (idle_text idle)

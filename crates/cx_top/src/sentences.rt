@@ -208,9 +208,24 @@ impl fmt::Display for IdleTold {
     ghost output = { λ idle. Some (idle_line_told idle.0) };
 
     fn fmt<W: fmt::Write>(&self, f: &mut fmt::Formatter<W>) -> fmt::Result {
+        write!(f, "cephx_cli: {}\n", OfIdle(self.0))
+    }
+}
+
+/// That a line did nothing, and why.
+#[derive(Clone, Copy)]
+struct OfIdle(IdleLine);
+
+impl fmt::Display for OfIdle {
+    ghost use Rattle.std.specs.Prelude.{Some};
+    ghost use Rattle.cx_top.specs.Told.{idle_text};
+
+    ghost output = { λ idle. Some (idle_text idle.0) };
+
+    fn fmt<W: fmt::Write>(&self, f: &mut fmt::Formatter<W>) -> fmt::Result {
         write!(
             f,
-            "cephx_cli: line {} of the schedule did nothing: {}\n",
+            "line {} did nothing: {}",
             self.0.number,
             WhyIdle(self.0.why)
         )
@@ -232,7 +247,7 @@ impl fmt::Display for WhyIdle {
             IdleReason::NoLink(link) => write!(f, "link {link} isn't there"),
             IdleReason::NothingUnderWay(link, side) => write!(
                 f,
-                "on link {link} nothing is under way from {}",
+                "on link {link} {} has nothing under way",
                 side_text(side)
             ),
             IdleReason::EndGone(link, side) => {
@@ -245,7 +260,7 @@ impl fmt::Display for WhyIdle {
                     side_text(side)
                 )
             }
-            IdleReason::BothGone(link) => write!(f, "both ends of link {link} are gone"),
+            IdleReason::BothGone(link) => write!(f, "link {link} has no end left"),
         }
     }
 }

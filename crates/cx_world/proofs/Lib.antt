@@ -11,4 +11,4 @@ pub mod Rounds
 pub mod Started
 pub mod Turns
 pub mod Vanishing
-pub mod replay
+pub mod replayed

@@ -9,4 +9,4 @@ pub mod Heads
 pub mod Idle
 pub mod Logs
 pub mod Settling
-pub mod replay
+pub mod replayed

@@ -2,7 +2,7 @@
 
 ghost use Rattle.std.specs.Prelude.{◌≡◌, IfOk};
 ghost use Rattle.cx_desk.specs.Held.{handlers_of};
-ghost use Rattle.cx_world.specs.replay.Serving.{IsReplayOf};
+ghost use Rattle.cx_world.specs.replayed.Serving.{IsReplayOf};
 ghost use Rattle.cx_world.specs.Heads.{IsSchedule};
 ghost use Rattle.cx_world.specs.Idle.{idle_lines};
 

@@ -2,7 +2,7 @@
 
 ghost use Rattle.std.specs.Prelude.{◌≡◌, ◌++◌, OnErr, OnOk};
 ghost use Rattle.cx_journal.specs.JournalText.{journal_text};
-ghost use Rattle.cx_world.specs.replay.Serving.{told};
+ghost use Rattle.cx_world.specs.replayed.Serving.{told};
 
 use crate::Report;
 use cx_base::Blob;

@@ -10,7 +10,7 @@ use Rattle.cx_journal.specs.declared.entries.Entry.{Entry}
 use Rattle.cx_journal.specs.declared.premises.Broken.{Broken}
 use Rattle.cx_laws_text.specs.printed.Tellable.{AreOfTypes}
 use Rattle.cx_lines.specs.declared.lines.Numbered.{Numbered}
-use Rattle.cx_world.specs.replay.Serving.{IsReplayOf, told}
+use Rattle.cx_world.specs.replayed.Serving.{IsReplayOf, told}
 use Rattle.cx_run.specs.Runs.{IsFoundOf}
 use Rattle.cx_schedule.specs.Files.{Lines}
 use Rattle.cx_words.specs.Cutting.{IsShort}

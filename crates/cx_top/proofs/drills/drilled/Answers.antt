@@ -3,7 +3,7 @@ use Rattle.std.proofs.Common.{◌≡◌, ◌∙◌, ◌++◌, ℕ, List, ap, sub
 use Rattle.cx_desk.specs.Held.{handlers_of}
 use Rattle.cx_lines.specs.declared.lines.Numbered.{Numbered}
 use Rattle.cx_world.specs.declared.idle.IdleLine.{IdleLine}
-use Rattle.cx_world.specs.replay.Serving.{IsReplayOf, idle_lines}
+use Rattle.cx_world.specs.replayed.Serving.{IsReplayOf, idle_lines}
 use Rattle.cx_schedule.specs.Drills.{drill_text}
 use Rattle.cx_top.specs.summary.Summaries.{summary_text}
 use Rattle.cx_top.specs.declared.summaries.Summary.{Summary}
@@ -24,7 +24,7 @@ returns g c = record {
   tells = c.is_some-is_broken.ensures;
   written = c.in_ok-text.ensures ∙ ap (λ (s : Summary). summary_text s ++ breach_line c.in_ok-report.report.broken) c.summary_of.ensures;
   besides =
-      c.in_ok-told.ensures
-      ∙ ap (λ (lines : List IdleLine). run_told c.in_ok-report.report.broken n)
+      (rw c.all.ensures at c.in_ok-told.ensures)
+      ∙ ap (λ (lines : List IdleLine). run_told c.in_ok-report.report.broken lines)
       (c.in_ok-report.ensures.idle ∙ ap (λ (s : List Numbered). idle_lines (handlers_of c.args.desk.now) s) c.in_ok-script.ensures.is);
 }

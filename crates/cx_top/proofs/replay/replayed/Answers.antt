@@ -2,7 +2,7 @@
 use Rattle.std.proofs.Common.{◌≡◌, ◌∙◌, ◌++◌, ℕ, List, Err, ap, rules, string_bytes}
 use Rattle.cx_desk.specs.Held.{handlers_of}
 use Rattle.cx_journal.specs.JournalText.{journal_text}
-use Rattle.cx_world.specs.replay.Serving.{told}
+use Rattle.cx_world.specs.replayed.Serving.{told}
 use Rattle.cx_top.specs.Statuses.{schedule_status}
 use Rattle.cx_top.proofs.Besides.{replay_made}
 use Rattle.cx_top.proofs.Reasons.{schedule_reason, schedule_read}
@@ -22,4 +22,4 @@ returns-clause-makes g c =
     c.in_ok-script.script c.in_ok-report.report.journal c.in_ok-report.report.broken c.in_ok-report.report.idle
     c.in_ok-script.ensures.found c.in_ok-script.ensures.short c.in_ok-report.ensures.replayed c.is_some-is_broken.ensures
     (c.in_ok-put_report.ensures.ok ∙ ap (λ (text : List ℕ). text ++ journal_text (told c.in_ok-report.report.journal c.in_ok-report.report.broken)) c.new-text.ensures)
-    (rw c.lines.ensures at c.in_ok-told.ensures) c.in_ok-report.ensures.idle
+    (rw (c.lines.ensures, c.all.ensures) at c.in_ok-told.ensures) c.in_ok-report.ensures.idle

@@ -1,5 +1,5 @@
 use Rattle.cx_desk.specs.Held.{handlers_of}
-use Rattle.cx_world.proofs.replay.Lawful.{is_replay}
+use Rattle.cx_world.proofs.replayed.Lawful.{is_replay}
 use Rattle.cx_world.proofs.served.replay.Goals as goal
 
 pub returns-clause-replayed : goal.returns-clause-replayed

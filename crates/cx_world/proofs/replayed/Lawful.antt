@@ -17,7 +17,7 @@ use Rattle.cx_laws_run.specs.run.Logins.{LogIn, Stands}
 use Rattle.cx_laws_run.specs.run.Origins.{GoBack}
 use Rattle.cx_laws_run.specs.sent.Answering.{AnswerWhatWasSent}
 use Rattle.cx_schedule.specs.cx_lines.specs.declared.lines.Numbered.{Numbered}
-use Rattle.cx_world.specs.replay.Serving.{IsReplayOf, serves}
+use Rattle.cx_world.specs.replayed.Serving.{IsReplayOf, serves}
 use Rattle.cx_schedule.specs.Files.{Lines}
 use Rattle.cx_laws_run.specs.cx_run.specs.Happenings.{Happening}
 use Rattle.cx_laws_run.specs.cx_run.specs.Opening.{Setup}
