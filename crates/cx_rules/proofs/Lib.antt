@@ -5,6 +5,8 @@ pub mod AlikeRows
 pub mod MonClientDrawing
 pub mod MonClientForgets
 pub mod MonClientWalk
+pub mod Asking
+pub mod Carrying
 pub mod Drawing
 pub mod Fitting
 pub mod Granting

@@ -48,7 +48,8 @@ use Rattle.cx_rules.specs.Verdicts.{Entrant, Occasion, asking_for, decided, entr
 use Rattle.cx_rules.specs.declared.verdicts.HandedOut.{HandedOut}
 use Rattle.cx_rules.specs.declared.verdicts.Verdict.TheVariants.{Granted}
 use Rattle.cx_rules.proofs.Affording.{affords, login-listed, ticket-entered, services-few, services-have}
-use Rattle.cx_rules.proofs.Handling.{found-number, plain-number, put-found, turn-handles}
+use Rattle.cx_rules.proofs.Carrying.{carried-on}
+use Rattle.cx_rules.proofs.Handling.{found-number, plain-number, turn-handles}
 use Rattle.cx_rules.proofs.Pieces.{plain-alone, plain-piece}
 use Rattle.cx_rules.proofs.Sizes.{IsShort, challenge-short, few-parts, length-code, length-connection_secret, length-done, length-sealed, plain-sent, secure-sent}
 
@@ -243,22 +244,15 @@ login-given m number offered ask reading draw h is_due =
     ∙ ap (λ (r : MonitorRow). Handles r) (ap (on_auth_request_more b offered) h.payload ∙ ap (on_authenticate b offered) h.read ∙ is_row) in
     let is : monitor_rule m (Turn number) reading draw ≡ carried_out (noted m) number true row = turn-handles m number reading draw h.link row h.found handled in
     let done : Finished = finish h.behind draw f in
-    let behind : Link MonitorStage = record h.behind {
-      stage = AwaitsSignature done.secured (record { name = name; gid = n.gid; session = session_of Auth draw; last = 0 });
-      sent = h.behind.sent ++ done.bytes;
-    } in
+    let stage : MonitorStage = AwaitsSignature done.secured (record { name = name; gid = n.gid; session = session_of Auth draw; last = 0 }) in
     let gives : GivesLogin m number offered ask reading draw is_due.principal h.behind (carried_out (noted m) number true row) = record {
       gid = n.gid;
       numbers = n.is;
       tickets = t.tickets;
       issued = t.each;
       sends = plain-piece number f (login_signature draw (take h.behind.taken h.behind.received)).bytes;
-      shuts = refl;
-      entries = refl;
       entered = λ service caps wanted has. ticket-entered name n.gid service caps handed.save t.tickets (t.tells service caps (login-listed ask.other_keys service wanted) has);
-      link = behind;
-      goes_on = put-found number behind m.links (plain-number h.link h.behind h.frame h.next ∙ found-number number m.links h.link h.found);
-      stage = refl;
+      carries = carried-on (noted m) number h.behind stage done.bytes row (plain-number h.link h.behind h.frame h.next ∙ found-number number m.links h.link h.found) refl refl;
     } in
     subst (GivesLogin m number offered ask reading draw is_due.principal h.behind) (sym is) gives
 
@@ -275,7 +269,7 @@ hello-challenged a request hello principal method modes read known =
 
 -- an entity of the keyring is sent a challenge
 pub challenge-given : (m : MonitorNode) (number : ℕ) (hello : LoginHello) (reading : ℕ) (draw : List ℕ) (h : HearsHello m number hello) (principal : Principal)
-    → find (is_named hello.name) m.own.server.ring ≡ Some principal → GivesChallenge number hello draw principal (monitor_rule m (Turn number) reading draw)
+    → find (is_named hello.name) m.own.server.ring ≡ Some principal → GivesChallenge m number hello draw principal h.behind (monitor_rule m (Turn number) reading draw)
 challenge-given m number hello reading draw h principal known =
     let a : MonitorArrival = arrival node.Monitor (noted m).own h.link reading draw in
     let b : MonitorArrival = at a h.behind in
@@ -290,13 +284,9 @@ challenge-given m number hello reading draw h principal known =
     ∙ ap (turned_by (λ ((link, g) : Link MonitorStage × Frame) _. on_auth_request on_request_payload (at a link) (due 2 auth_request_layout.form g))) h.next
     ∙ ap (λ (r : MonitorRow). Handles r) (ap (on_auth_request on_request_payload b) h.payload ∙ is_row) in
     let is : monitor_rule m (Turn number) reading draw ≡ carried_out (noted m) number true row = turn-handles m number reading draw h.link row h.found handled in
-    let behind : Link MonitorStage = record h.behind { stage = AwaitsProof offered; sent = h.behind.sent ++ frame_text f } in
-    let gives : GivesChallenge number hello draw principal (carried_out (noted m) number true row) = record {
+    let gives : GivesChallenge m number hello draw principal h.behind (carried_out (noted m) number true row) = record {
       sends = plain-alone number f;
-      shuts = refl;
-      entries = refl;
-      link = behind;
-      goes_on = put-found number behind m.links (plain-number h.link h.behind h.frame h.next ∙ found-number number m.links h.link h.found);
-      stage = refl;
+      own = refl;
+      carries = carried-on (noted m) number h.behind (AwaitsProof offered) (frame_text f) row (plain-number h.link h.behind h.frame h.next ∙ found-number number m.links h.link h.found) refl refl;
     } in
-    subst (GivesChallenge number hello draw principal) (sym is) gives
+    subst (GivesChallenge m number hello draw principal h.behind) (sym is) gives

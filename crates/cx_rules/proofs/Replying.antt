@@ -46,7 +46,8 @@ use Rattle.cx_rules.specs.declared.responses.Demand.{Demand}
 use Rattle.cx_rules.specs.declared.responses.ReplyMade.{ReplyMade}
 use Rattle.cx_rules.specs.declared.responses.Response.TheVariants.{Replies}
 use Rattle.cx_rules.proofs.Affording.{affords, others-few, others-have, ticket-entered, wanted-listed}
-use Rattle.cx_rules.proofs.Handling.{found-number, put-found, secure-number, turn-handles}
+use Rattle.cx_rules.proofs.Carrying.{carried-on}
+use Rattle.cx_rules.proofs.Handling.{found-number, secure-number, turn-handles}
 use Rattle.cx_rules.proofs.Pieces.{secure-piece}
 use Rattle.cx_rules.proofs.Sizes.{length-reply_rotating, length-reply_tickets, length-sealed, length-told, reply-parts, secure-sent, total-reply}
 
@@ -127,22 +128,18 @@ reply-sent m number reading draw request h told tickets reply answered short =
     let made : ReplyMade = reply_made (changed m.own.saved server.state) (rotation_drawn reading draw m.own.server.state) told tickets reply in
     let sent : SealedFrame = sealed_under h.keys (reply_message h.message.header.tid (reply_layout.form.text reply)) in
     let row : MonitorRow = sends_reply Open (serving b server) s h.bearer d.seq made (Ok sent) in
-    let behind : Link MonitorStage = record h.behind { stage = Open (under s sent.keys) (record h.bearer { last = d.seq }); sent = h.behind.sent ++ sent.bytes } in
     let is_row : on_demand Open b s h.bearer (Ok d) ≡ row =
     ap (row_responding Open b s h.bearer d) answered ∙ reply-row (serving b server) s h.bearer d made short h.counters in
     let is : monitor_rule m (Turn number) reading draw ≡ carried_out (noted m) number true (with_opened h.opened row) =
     turn-handles m number reading draw h.link (with_opened h.opened row) h.found
     (request-demanded m number reading draw request h ∙ ap (λ (r : MonitorRow). Handles (with_opened h.opened r)) is_row) in
-    let numbered : behind.number ≡ number = secure-number h.secured.keys h.keys h.link h.behind h.frame h.opened h.next ∙ found-number number m.links h.link h.found in
+    let numbered : h.behind.number ≡ number = secure-number h.secured.keys h.keys h.link h.behind h.frame h.opened h.next ∙ found-number number m.links h.link h.found in
     let sends : SendsReply m number reading draw h reply (carried_out (noted m) number true (with_opened h.opened row)) = record {
       sent = sent;
       made = refl;
       sends = secure-piece number h.keys 17 _ _;
-      shuts = refl;
       server = refl;
-      link = behind;
-      goes_on = put-found number behind m.links numbered;
-      stage = refl;
+      carries = carried-on (noted m) number h.behind (Open (under s sent.keys) (record h.bearer { last = d.seq })) sent.bytes (with_opened h.opened row) numbered refl refl;
     } in
     subst (λ (o : Outcome MonitorNode). SendsReply m number reading draw h reply o × (o.out.entries ≡ login_entries o.out.save tickets)) (sym is) (sends, refl)
 

@@ -8,8 +8,13 @@ use Rattle.cx_base.specs.declared.kinds.EntityType.{EntityType}
 use Rattle.cx_base.specs.declared.kinds.EntityType.TheVariants.{Auth}
 use Rattle.cx_keyserver.specs.cx_cbc.specs.Envelope.{sealed}
 use Rattle.cx_login.specs.cx_control.specs.Auth.{auth_done_layout, auth_reply_more_layout, auth_request_layout, auth_request_more_layout, auth_signature_layout}
+use Rattle.cx_login.specs.cx_control.specs.Hello.{hello_layout}
+use Rattle.cx_login.specs.cx_control.specs.Idents.{client_ident_layout}
 use Rattle.cx_login.specs.cx_control.specs.declared.auth.AuthRequest.{AuthRequest}
 use Rattle.cx_login.specs.cx_control.specs.declared.auth.AuthRequestMore.{AuthRequestMore}
+use Rattle.cx_login.specs.cx_control.specs.declared.auth.AuthSignature.{AuthSignature}
+use Rattle.cx_login.specs.cx_control.specs.declared.hello.Hello.{Hello}
+use Rattle.cx_login.specs.cx_control.specs.declared.idents.ClientIdent.{ClientIdent}
 use Rattle.cx_keyserver.specs.cx_dice.specs.Draws.{challenge_of, connection_of, has_keys, session_of}
 use Rattle.cx_stream.specs.cx_digest.specs.Code.{hmac}
 use Rattle.cx_stream.specs.cx_frame.specs.Frames.{frame_text}
@@ -37,15 +42,18 @@ use Rattle.cx_login.specs.cx_wire.specs.declared.bodies.Reply.TheVariants as giv
 use Rattle.cx_login.specs.cx_wire.specs.declared.bodies.Request.{Request}
 use Rattle.cx_login.specs.cx_wire.specs.declared.logins.Authenticate.{Authenticate}
 use Rattle.cx_login.specs.cx_wire.specs.declared.logins.LoginHello.{LoginHello}
-use Rattle.cx_rules.specs.Acceptor.{AwaitsRequest, AwaitsProof, AwaitsSignature, Open}
-use Rattle.cx_rules.specs.Fronts.{Next, plain_next, secure_next}
-use Rattle.cx_rules.specs.Links.{Link, link_of}
+use Rattle.cx_rules.specs.Acceptor.{AwaitsBanner, AwaitsHello, AwaitsRequest, AwaitsProof, AwaitsSignature, AwaitsIdent, Open}
+use Rattle.cx_rules.specs.Carrying.{CarriesOn}
+use Rattle.cx_rules.specs.Fronts.{Next, banner_next, plain_next, secure_next}
+use Rattle.cx_rules.specs.Greetings.{own_banner}
+use Rattle.cx_rules.specs.Links.{Link, link_of, put_link}
 use Rattle.cx_rules.specs.Messages.{Message, body_as, message, message_in}
 use Rattle.cx_rules.specs.Monitor.{MonitorNode, MonitorStage, Offered}
-use Rattle.cx_rules.specs.Payloads.{control, due, whole}
+use Rattle.cx_rules.specs.MonitorRule.{noted}
+use Rattle.cx_rules.specs.Payloads.{control, due, payload, whole}
 use Rattle.cx_rules.specs.Replies.{others_for}
-use Rattle.cx_rules.specs.Rows.{Outcome}
-use Rattle.cx_rules.specs.Secured.{Keys, SealedFrame, Secured, acceptor_keys, sealed_under, under}
+use Rattle.cx_rules.specs.Rows.{Outcome, new_link, piece}
+use Rattle.cx_rules.specs.Secured.{Keys, SealedFrame, Secured, acceptor_keys, is_signed, sealed_under, under}
 use Rattle.cx_rules.specs.Tickets.{is_asked, services_for, ticket_part}
 use Rattle.cx_rules.specs.Verdicts.{login_entries, numbered}
 use Rattle.cx_rules.specs.declared.messages.Body.TheVariants.{Spelled}
@@ -107,6 +115,74 @@ abbrev pub EntersEach : (EntityType → Bool) → Principal → Name → ℕ →
 EntersEach wanted principal name gid entries =
     (service : EntityType) (caps : List ℕ) → IsTrue (wanted service) → caps_for service principal ≡ Some caps → SomeOf (IsIssuedTo name gid service caps) entries
 
+-- ---- banner and HELLO
+
+-- what a step gives to a link that opens: the banner is sent on it, and the peer's is waited for
+pub record OpensLink (m : MonitorNode) (number : ℕ) (o : Outcome MonitorNode) : Type 0 where
+  pub sends : o.out.sends ≡ piece number own_banner
+  pub opens : o.out.opens ≡ []
+  pub shuts : o.out.shuts ≡ []
+  pub entries : o.out.entries ≡ []
+  pub own : o.state.own ≡ (noted m).own
+  pub links_are : o.state.links ≡ put_link (record (new_link number AwaitsBanner) { sent = own_banner }) m.links
+
+-- a link waits for the peer's banner, and one stands next on it
+pub record HearsBanner (m : MonitorNode) (number : ℕ) : Type 0 where
+  pub link : Link MonitorStage
+  pub found : link_of number m.links ≡ Some link
+  pub stage : link.stage ≡ AwaitsBanner
+  pub behind : Link MonitorStage
+  pub next : banner_next link ≡ Next behind []
+  pub same : behind.number ≡ link.number
+
+-- it waits for HELLO, and one stands next on it
+pub record HearsGreeting (m : MonitorNode) (number : ℕ) : Type 0 where
+  pub link : Link MonitorStage
+  pub found : link_of number m.links ≡ Some link
+  pub stage : link.stage ≡ AwaitsHello
+  pub behind : Link MonitorStage
+  pub frame : Frame
+  pub next : plain_next link ≡ Next (behind, frame) []
+  pub hello : Hello
+  pub payload : due 1 hello_layout.form frame ≡ Ok hello
+
+-- ---- the peer's signature, and CLIENT_IDENT
+
+-- a link waits for the peer's AUTH_SIGNATURE, and one stands next on it that covers what was sent
+pub record HearsSignature (m : MonitorNode) (number : ℕ) : Type 0 where
+  pub link : Link MonitorStage
+  pub found : link_of number m.links ≡ Some link
+  pub secured : Secured
+  pub bearer : Bearer
+  pub stage : link.stage ≡ AwaitsSignature secured bearer
+  pub behind : Link MonitorStage
+  pub frame : Frame
+  pub keys : Keys
+  pub opened : List SealEntry
+  pub next : secure_next secured.keys link ≡ Next (behind, frame, keys) opened
+  pub signature : AuthSignature
+  pub payload : due 7 auth_signature_layout.form frame ≡ Ok signature
+  pub right : is_signed (under secured keys) signature.signature ≡ true
+
+-- it waits for CLIENT_IDENT, and one stands next on it that requires no features; counters are left for an answer
+pub record HearsIdent (m : MonitorNode) (number : ℕ) : Type 0 where
+  pub link : Link MonitorStage
+  pub found : link_of number m.links ≡ Some link
+  pub secured : Secured
+  pub bearer : Bearer
+  pub stage : link.stage ≡ AwaitsIdent secured bearer
+  pub behind : Link MonitorStage
+  pub frame : Frame
+  pub keys : Keys
+  pub opened : List SealEntry
+  pub next : secure_next secured.keys link ≡ Next (behind, frame, keys) opened
+  pub tag : frame.tag ≡ 8
+  pub ident : ClientIdent
+  pub payload : payload client_ident_layout.form frame ≡ Ok ident
+  pub required : ident.required ≡ 0
+  pub counters : keys.out.counter + 3 ≤ 2 ^ 64 - 1
+  pub address : length m.own.address.ip ≡ 4
+
 -- ---- a challenge
 
 -- a link waits for AUTH_REQUEST, and one stands next on it that has the method 2, cephx, offers the mode 2, secure, and has this LoginHello
@@ -127,15 +203,14 @@ pub record HearsHello (m : MonitorNode) (number : ℕ) (hello : LoginHello) : Ty
 abbrev pub challenge_frame : List ℕ → Frame
 challenge_frame draw = control 4 auth_reply_more_layout.form (record { payload = server_challenge_layout.form.text (record { challenge = challenge_of draw }) })
 
--- what a step gives to an entity of the keyring that says hello: a challenge, which is drawn; nothing is shut or refused, and the link goes
--- on: it waits for the proof of that entity's secret
-pub record GivesChallenge (number : ℕ) (hello : LoginHello) (draw : List ℕ) (principal : Principal) (o : Outcome MonitorNode) : Type 0 where
+-- what a step gives to an entity of the keyring that says hello: a challenge, which is drawn; and the link goes on: it waits for the proof of
+-- that entity's secret
+pub record GivesChallenge (m : MonitorNode) (number : ℕ) (hello : LoginHello) (draw : List ℕ) (principal : Principal) (behind : Link MonitorStage) (o : Outcome MonitorNode) : Type 0 where
   pub sends : o.out.sends ≡ link_piece number (frame_text (challenge_frame draw)) ∷ []
-  pub shuts : o.out.shuts ≡ []
-  pub entries : o.out.entries ≡ []
-  pub link : Link MonitorStage
-  pub goes_on : link_of number o.state.links ≡ Some link
-  pub stage : link.stage ≡ AwaitsProof (record { offer = record { name = hello.name; secret = principal.key.secret; challenge = challenge_of draw }; gid = hello.gid })
+  pub own : o.state.own ≡ (noted m).own
+  pub carries : CarriesOn m.links behind
+      (AwaitsProof (record { offer = record { name = hello.name; secret = principal.key.secret; challenge = challenge_of draw }; gid = hello.gid }))
+      (frame_text (challenge_frame draw)) [] o
 
 -- ---- a login
 
@@ -189,7 +264,7 @@ login_signature draw received =
     sealed_under (acceptor_keys (connection_of draw)) (control 7 auth_signature_layout.form (record { signature = hmac (session_of Auth draw) received }))
 
 -- what a step gives to a login that is due: a global id, kept or new, and a ticket for AUTH and for each asked service for which the entity has
--- capabilities. AUTH_DONE and AUTH_SIGNATURE are sent in one piece, nothing is shut, each ticket is entered, and the link goes on: it waits
+-- capabilities. AUTH_DONE and AUTH_SIGNATURE are sent in one piece, each ticket is entered, and the link goes on: it waits
 -- for the peer's signature, which has to cover AUTH_DONE too
 pub record GivesLogin (m : MonitorNode) (number : ℕ) (offered : Offered) (ask : Authenticate) (reading : ℕ) (draw : List ℕ) (principal : Principal) (behind : Link MonitorStage) (o : Outcome MonitorNode) : Type 0 where
   pub gid : ℕ
@@ -199,14 +274,12 @@ pub record GivesLogin (m : MonitorNode) (number : ℕ) (offered : Offered) (ask 
   pub issued : AreIssuedFor o.state.own.server (λ service. asking offered.offer.name service gid (session_of Auth draw) reading draw)
       (services_granted principal (services_for ask.other_keys)) tickets
   pub sends : o.out.sends ≡ link_piece number (frame_text (login_frame gid tickets draw) ++ (login_signature draw (take behind.taken behind.received)).bytes) ∷ []
-  pub shuts : o.out.shuts ≡ []
-  pub entries : o.out.entries ≡ login_entries o.out.save tickets
   pub entered : EntersEach (λ service. same_kind service Auth || is_wanted ask.other_keys service) principal offered.offer.name gid o.out.entries
-  pub link : Link MonitorStage
-  pub goes_on : link_of number o.state.links ≡ Some link
-  pub stage : link.stage ≡ AwaitsSignature
+  pub carries : CarriesOn m.links behind
+      (AwaitsSignature
       (record { keys = (login_signature draw (take behind.taken behind.received)).keys; session = session_of Auth draw; covered = behind.sent ++ frame_text (login_frame gid tickets draw) })
-      (record { name = offered.offer.name; gid = gid; session = session_of Auth draw; last = 0 })
+      (record { name = offered.offer.name; gid = gid; session = session_of Auth draw; last = 0 }))
+      (frame_text (login_frame gid tickets draw) ++ (login_signature draw (take behind.taken behind.received)).bytes) (login_entries o.out.save tickets) o
 
 -- ---- a request
 
@@ -231,17 +304,13 @@ pub record HearsRequest (m : MonitorNode) (number : ℕ) (request : Request) : T
   pub left : bearer.last ≢ 2 ^ 64 - 1
   pub counters : keys.out.counter + 2 ≤ 2 ^ 64 - 1
 
--- a step replies: message 18 with this reply is sent under the tid of the request, nothing is shut, the secrets are rotated, and the link goes
--- on, open as before
+-- a step replies: message 18 with this reply is sent under the tid of the request, the secrets are rotated, and the link goes on, open as before
 pub record SendsReply (m : MonitorNode) (number reading : ℕ) (draw : List ℕ) {request : Request} (heard : HearsRequest m number request) (reply : Reply) (o : Outcome MonitorNode) : Type 0 where
   pub sent : SealedFrame
   pub made : sent ≡ sealed_under heard.keys (message (record { seq = 0; tid = heard.message.header.tid; type_ = 18 }) (reply_layout.form.text reply))
   pub sends : o.out.sends ≡ link_piece number sent.bytes ∷ []
-  pub shuts : o.out.shuts ≡ []
   pub server : o.state.own.server ≡ rotated_server reading draw m.own.server
-  pub link : Link MonitorStage
-  pub goes_on : link_of number o.state.links ≡ Some link
-  pub stage : link.stage ≡ Open (under heard.secured sent.keys) (record heard.bearer { last = heard.message.header.seq })
+  pub carries : CarriesOn m.links heard.behind (Open (under heard.secured sent.keys) (record heard.bearer { last = heard.message.header.seq })) sent.bytes o.out.entries o
 
 -- tickets are due: to an entity of the keyring, with a name and caps that one may have, where each service for which it gets a ticket has a
 -- current generation

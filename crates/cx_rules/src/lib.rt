@@ -7,7 +7,7 @@ mod requests;
 mod responses;
 mod verdicts;
 
-pub use laws::{answering_laws, forgetting_laws, rule_laws};
+pub use laws::{answering_laws, asking_laws, forgetting_laws, rule_laws};
 pub use messages::Body;
 pub use requests::{Taken, Waiting, Want};
 pub use responses::{Bearer, Demand, ReplyMade, Response};
@@ -15,7 +15,9 @@ pub use verdicts::{HandedOut, Verdict};
 
 // What crates above name through this one, and so needn't list.
 pub use cx_login::{Asking, HeldTicket, LoggedIn, LoginRefusal, opened_login};
-pub use cx_stream::{Greeted, Greeting, Plain, Sealing, Secure, SecureRefusal, StreamFault};
+pub use cx_stream::{
+    Greeted, Greeting, Plain, SealedAhead, Sealing, Secure, SecureRefusal, StreamFault,
+};
 
 // Each public type may be sent to another thread and shared with one.
 fn is_sendable<T: Send + Sync>() {}

@@ -47,7 +47,8 @@ use Rattle.cx_rules_session.specs.Hosting.{Deciding, no_session_moves}
 use Rattle.cx_rules_session.specs.Kinds.{entered_before, of_kind}
 use Rattle.cx_rules.proofs.Sizes.{length-code, length-sealed, plain-sent}
 use Rattle.cx_rules_session.proofs.Lengths.{counts-from-0, length-connection}
-use Rattle.cx_rules_session.proofs.Sealable.{frame-sealed, total-control}
+use Rattle.cx_rules_session.proofs.Sealable.{frame-sealed}
+use Rattle.cx_rules.proofs.Carrying.{total-control}
 use Rattle.cx_rules_session.proofs.Serving.{Steps}
 
 -- ---- frames

@@ -2,15 +2,11 @@
 use Rattle.std.proofs.Common.{◌≡◌, ℕ, ◌+◌, ◌^◌, ◌≤◌, ◌<◌, List, [], ◌∷◌, ◌++◌, length, Result, Ok, refl, ap, ◌∙◌, append-nil, arith, length-append}
 use Rattle.std.specs.Int.{w16, w32, w64}
 use Rattle.std.proofs.lemmas.List.Sums.{sum_by-cons}
-use Rattle.cx_session.specs.cx_base.specs.declared.addresses.Addr.{Addr}
 use Rattle.cx_session.specs.cx_base.specs.declared.operations.Operation.{Operation}
-use Rattle.cx_authorize.specs.cx_control.specs.Idents.{server_ident_layout}
 use Rattle.cx_authorize.specs.cx_control.specs.Reconnects.{session_reconnect_ok_layout}
 use Rattle.cx_authorize.specs.cx_control.specs.Upkeep.{ack_layout}
-use Rattle.cx_authorize.specs.cx_control.specs.declared.idents.ServerIdent.{ServerIdent}
 use Rattle.cx_desk.specs.Handlers.{answer_of}
 use Rattle.cx_authorize.specs.cx_enc.specs.Forms.{Form, little}
-use Rattle.cx_authorize.specs.cx_enc.specs.Values.{addr_form}
 use Rattle.cx_rules.specs.cx_frame.specs.Frames.{total}
 use Rattle.cx_rules.specs.cx_frame.specs.Preambles.{length_of}
 use Rattle.cx_rules.specs.cx_frame.specs.declared.frame.Frame.{Frame}
@@ -22,11 +18,11 @@ use Rattle.cx_authorize.specs.cx_wire.specs.Headers.{header_layout, written_head
 use Rattle.cx_authorize.specs.cx_wire.specs.Operations.{answer_layout, operation_layout}
 use Rattle.cx_authorize.specs.cx_wire.specs.declared.bodies.Request.TheVariants as asked
 use Rattle.cx_authorize.specs.cx_wire.specs.declared.headers.Header.{Header}
-use Rattle.cx_rules.specs.Acceptor.{server_ident}
 use Rattle.cx_rules.specs.Messages.{acknowledgement, message, sealed_behind, sealed_then, secure_frames}
 use Rattle.cx_rules.specs.Payloads.{control}
 use Rattle.cx_rules.specs.Requests.{request_message}
 use Rattle.cx_rules.specs.Secured.{Keys, SealedFrame, sealed_under, secure_frame}
+use Rattle.cx_rules.proofs.Carrying.{total-control, total-message}
 use Rattle.cx_rules.proofs.Sizes.{few-parts, secure-sent}
 use Rattle.cx_rules_session.specs.Complete.{HasCounters, IsSizedOperation, both_sealed}
 use Rattle.cx_rules_session.specs.Sessions.{operation_message}
@@ -51,17 +47,6 @@ both-sealed keys f g room first second =
     )
 
 -- ---- how long frames are
-
-pub total-control : {X : Type 0} (tag : ℕ) (form : Form X) (x : X) → total (control tag form x) ≡ length (form.text x)
-total-control tag form x = sum_by-cons length_of (record { align = 8; bytes = form.text x }) [] ∙ omega arith
-
-pub total-message : (header : Header) (body : List ℕ) → total (message header body) ≡ 41 + length body
-unfolding little
-total-message header body =
-    let one : Segment = record { align = 8; bytes = header_layout.form.text (written_header header) } in
-    let two : Segment = record { align = 8; bytes = body } in
-    let size : length (header_layout.form.text (written_header header)) ≡ 41 = refl in
-    omega (arith, sum_by-cons length_of one (two ∷ []), sum_by-cons length_of two [], size)
 
 pub short-ack : (seq : ℕ) → total (acknowledgement seq) ≤ 1048576
 unfolding little
@@ -89,23 +74,6 @@ short-request number =
     let body : List ℕ = request_layout.form.text asked.Rotating in
     let size : length body ≡ 7 = refl in
     omega (arith, total-message (record { seq = number; tid = number; type_ = 17 }) body, size)
-
--- what stands behind the address
-server_text : ℕ → ℕ → List ℕ
-server_text flags cookie = little w64 0 ++ (little w64 0 ++ (little w64 0 ++ (little w64 0 ++ (little w64 flags ++ little w64 cookie))))
-
-length-address : (address : Addr) → length (addr_form.text address) ≡ 11 + length address.ip
-unfolding addr_form little
-length-address address =
-    let port : List ℕ = little w16 address.port in
-    omega (arith, length-append address.ip port)
-
-pub short-server_ident : (address : Addr) (flags cookie : ℕ) → length address.ip ≡ 4 → total (server_ident address flags cookie) ≤ 1048576
-unfolding little server_text
-short-server_ident address flags cookie four =
-    let ident : ServerIdent = record { addr = address; gid = 0; global_seq = 0; supported = 0; required = 0; flags = flags; cookie = cookie } in
-    let size : length (server_ident_layout.form.text ident) ≡ 63 + length address.ip = omega (arith, length-address address, length-append (addr_form.text address) (server_text flags cookie)) in
-    omega (arith, total-control 9 server_ident_layout.form ident, size, four)
 
 pub short-operation : (seq : ℕ) (operation : Operation) → IsSizedOperation operation → total (operation_message (seq, operation)) ≤ 1048576
 unfolding little

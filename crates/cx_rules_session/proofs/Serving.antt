@@ -45,7 +45,8 @@ use Rattle.cx_rules_session.specs.IncomingLinks.{IncomingArrival, IncomingRow, I
 use Rattle.cx_rules_session.specs.Hosting.{Deciding, Hosted, Instruction, admission_of, admits, answer_message, asks_admission, comes_to, cookie_drawn, decided_by, handled_entry, handles, hosted_behind, instruction_of, on_admission, on_checked, on_client_ident, on_ident, on_message, on_open, on_reconnect, on_resumption, on_taken, outcome_of, reconnect_ok, resumes, served_as}
 use Rattle.cx_rules_session.specs.Kinds.{entered_before, of_kind, turn_of_kind}
 use Rattle.cx_rules_session.specs.Lossy.{is_lossy, lossy_flags}
-use Rattle.cx_rules_session.proofs.Sealable.{both-sealed, frame-sealed, short-ack, short-answer, short-reconnect_ok, short-server_ident}
+use Rattle.cx_rules_session.proofs.Sealable.{both-sealed, frame-sealed, short-ack, short-answer, short-reconnect_ok}
+use Rattle.cx_rules.proofs.Carrying.{short-server_ident}
 
 -- what is said of a step of a daemon by its rule
 abbrev pub Steps : DaemonState → Link IncomingStage → (Stepped DaemonState → Type 0) → Deciding (Stepped DaemonNode) → Type 0

@@ -1,4 +1,5 @@
 pub mod Answering
+pub mod CommitLaws
 pub mod FixedBytes
 pub mod HeadLaws
 pub mod Lengths

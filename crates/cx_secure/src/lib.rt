@@ -10,16 +10,17 @@ mod rooms;
 mod sealing;
 mod starting;
 
-pub use laws::secure_laws;
+pub use laws::{commit_laws, secure_laws};
 pub use opening::{MAX_SECURE, rest_len};
 pub use refusals::SecureRefusal;
-pub use sealing::{Head, Sealing, Way};
+pub use sealing::{Head, SealedAhead, Sealing, Way};
 
 // Each public type may be sent to another thread and shared with one.
 fn is_sendable<T: Send + Sync>() {}
 
 fn all_are_sendable() {
     is_sendable::<Sealing>();
+    is_sendable::<SealedAhead>();
     is_sendable::<Head>();
     is_sendable::<SecureRefusal>();
 }

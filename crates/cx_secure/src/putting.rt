@@ -1,9 +1,11 @@
 //! Sealing frames.
 
-ghost use Rattle.std.specs.Prelude.{◌≡◌, ◌≢◌, ℕ, ◌+◌, ◌-◌, ◌<◌, ◌≤◌, ◌^◌, ◌++◌, List, All, None, IfOk, IfErr, OnOk, OnErr, length, sum_by};
+ghost use Rattle.std.specs.Prelude.{◌≡◌, ◌≢◌, ℕ, ◌+◌, ◌-◌, ◌<◌, ◌≤◌, ◌^◌, ◌++◌, List, All, None, Err, IfOk, IfErr, OnOk, OnErr, length, sum_by};
 ghost use Rattle.cx_gcm.specs.GcmKeyOf.{gcm_key_of};
 ghost use Rattle.cx_frame.specs.Frames.{IsAnnounceable, total};
 ghost use Rattle.cx_frame.specs.Preambles.{IsAllowed, length_of, preamble_of};
+ghost use Rattle.cx_frame.specs.declared.frame.Frame.{Frame};
+ghost use Rattle.cx_secure.specs.Commits.{IsAheadOf, after_commit};
 ghost use Rattle.cx_secure.specs.Contents.{frame_contents, sealed_contents};
 ghost use Rattle.cx_secure.specs.Parts.{sealed_parts};
 ghost use Rattle.cx_secure.specs.Plains.{bodies, filled, inline_of, last_plain, nonempty, padded, parts_of, plains, second_plain, secure_text};
@@ -14,7 +16,7 @@ use crate::opening::MAX_SECURE;
 use crate::parts::{TAG, hand_out, nonce_at, seal_part, seal_some};
 use crate::refusals::SecureRefusal;
 use crate::rooms::{COMPLETE, END, INLINE, one_if, up16};
-use crate::sealing::{Sealing, Way};
+use crate::sealing::{SealedAhead, Sealing, Way};
 use cx_base::{Blob, Items};
 use cx_frame::{Frame, Segment, preamble_bytes, preamble_of, put_text, total};
 use cx_gcm::GcmKey;
@@ -41,12 +43,43 @@ impl Sealing {
         ensures after { self.new ≡ after_putting self.old frame.now result }
         ensures err { OnErr result (into.new ≡ into.old) }
     {
+        match self.put_ahead(alloc, into, frame) {
+            Ok(ahead) => {
+                self.commit(ahead);
+                Ok(())
+            }
+            Err(refusal) => {
+                self.keep_unsent(refusal);
+                Err(refusal)
+            }
+        }
+    }
+
+    /// Seals a frame under the counter of this direction, puts it behind some bytes, and changes nothing: `commit` then goes on behind it. After a
+    /// refusal the bytes are as before.
+    pub fn put_ahead(
+        &self,
+        alloc: Global,
+        into: &mut Blob,
+        frame: &Frame,
+    ) -> Result<SealedAhead, SecureRefusal>
+        requires { IsAnnounceable frame.now }
+        ensures ok { OnOk result (into.new ≡ into.old ++ secure_text (connection_key self.now) self.now.out.fixed self.now.out.counter frame.now) }
+        // It uses the counters from the one of this direction on, one for each part.
+        ensures ahead { IfOk result (IsAheadOf self.now frame.now) }
+        // A frame that is sealed is one that a preamble announces within the limit.
+        ensures allowed { OnOk result (IsAllowed 1048576 (preamble_of frame.now)) }
+        ensures free { OnOk result (put_refusal self.now frame.now ≡ None) }
+        // It is refused for what was refused before, then for the counter, then for the limit.
+        ensures refused { IfErr result (IsRefusal (put_refusal self.now frame.now)) }
+        ensures err { OnErr result (into.new ≡ into.old) }
+    {
         if let Some(refusal) = self.kept {
             return Err(refusal);
         }
+        let from = self.out.counter;
         let parts = parts_of(frame);
-        if self.out.counter > u64::MAX - parts {
-            self.kept = Some(SecureRefusal::CounterSpent);
+        if from > u64::MAX - parts {
             return Err(SecureRefusal::CounterSpent);
         }
         let total = total(frame);
@@ -55,8 +88,42 @@ impl Sealing {
         }
         let text = sealed(alloc, &self.key, &self.out, frame)?;
         put_text(alloc, into, text)?;
-        self.out.raise(parts);
-        Ok(())
+        let next = from + parts;
+        Ok(SealedAhead { from, next })
+    }
+
+    /// Goes on behind a frame that was sealed ahead, where no other was committed since. It wants no memory.
+    pub fn commit(&mut self, ahead: SealedAhead)
+        requires { ahead.from ≡ self.old.out.counter }
+        ensures { self.new ≡ after_commit self.old ahead }
+    {
+        self.out.go_on_at(ahead.next);
+    }
+
+    // Keeps why a frame wasn't sealed, but for want of memory and one that is too long.
+    fn keep_unsent(&mut self, refusal: SecureRefusal)
+        ensures { (f : Frame) → self.new ≡ after_putting self.old f (Err refusal) }
+    {
+        match refusal {
+            SecureRefusal::OutOfMemory => {}
+            SecureRefusal::TooLong(_) => {}
+            refusal => self.kept = Some(refusal),
+        }
+    }
+
+    /// The content of each part of a frame that was sealed ahead: its nonce and its plain bytes.
+    pub fn ahead_contents(
+        &self,
+        alloc: Global,
+        ahead: &SealedAhead,
+        frame: &Frame,
+    ) -> Result<Items<Blob>, AllocError>
+        requires announced { IsAnnounceable frame.now }
+        requires short { total frame.now ≤ 1048576 }
+        ensures { IfOk result (λ contents. contents ≡ frame_contents (after_commit self.now ahead.now).out frame.now) }
+    {
+        let counter = ahead.next.saturating_sub(parts_of(frame));
+        contents(alloc, &self.out.fixed, counter, frame)
     }
 
     /// The content of each part of the frame that was put last: its nonce and its plain bytes.
@@ -81,6 +148,7 @@ impl Sealing {
 fn parts_of(frame: &Frame) -> u64
     requires { IsAnnounceable frame.now }
     ensures value { result ≡ length (plains frame.now) }
+    ensures some { 1 ≤ result }
     ensures small { result ≤ 3 }
 {
     let segments = frame.segments.all();

@@ -1,5 +1,6 @@
 //! What one end of a connection holds to seal and to open.
 
+ghost use Rattle.std.specs.Prelude.{◌<◌};
 ghost use Rattle.cx_secure.specs.Parts.{IsFixed};
 
 use crate::refusals::SecureRefusal;
@@ -24,6 +25,13 @@ impl Way {
     {
         self.counter += parts;
     }
+
+    // The next part has this counter.
+    pub(crate) fn go_on_at(&mut self, counter: u64)
+        ensures { self.new ≡ record self.old { counter = counter } }
+    {
+        self.counter = counter;
+    }
 }
 
 /// The head of a secure frame: its preamble, and the first 48 bytes of its first segment with their fill.
@@ -33,12 +41,21 @@ pub struct Head {
     pub inline: [u8; 48],
 }
 
-/// The key of a connection, made ready once, with both directions, and the refusal that ended it. It takes 2,500 bytes. It is `Copy`, but
-/// two copies that both send use a nonce twice: send with one alone.
-#[derive(Clone, Copy)]
+/// The key of a connection, made ready once, with both directions, and the refusal that ended it. It takes 2,500 bytes. It has no copy, so that
+/// no two send under one nonce.
+#[derive(Drop)]
 pub struct Sealing {
     pub(crate) key: GcmKey,
     pub(crate) out: Way,
     pub(crate) into: Way,
     pub(crate) kept: Option<SecureRefusal>,
+}
+
+/// A frame that was sealed ahead: the counter of its first part, and the one behind its last. It has no copy, and is committed once, to a sealing
+/// that still stands at its counter.
+#[derive(Drop)]
+pub struct SealedAhead {
+    pub(crate) from: u64,
+    pub(crate) next: u64,
+    pub ghost rises: { from < next },
 }

@@ -14,7 +14,7 @@ pub use laws::{plain_stream_laws, secure_stream_laws};
 pub use stages::{Ended, Greeted, Greeting, Plain, Secure};
 
 // What crates above name through this one, and so needn't list.
-pub use cx_secure::{Sealing, SecureRefusal};
+pub use cx_secure::{SealedAhead, Sealing, SecureRefusal};
 
 // Each public type may be sent to another thread and shared with one.
 fn is_sendable<T: Send + Sync>() {}

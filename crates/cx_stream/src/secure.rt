@@ -4,6 +4,7 @@ ghost use Rattle.std.specs.Prelude.{◌≡◌, ◌≢◌, ◌≤◌, ◌-◌, �
 ghost use Rattle.cx_frame.specs.Frames.{IsAnnounceable, total};
 ghost use Rattle.cx_frame.specs.Preambles.{IsAllowed};
 ghost use Rattle.cx_frame.specs.declared.frame.Frame.{Frame};
+ghost use Rattle.cx_secure.specs.Commits.{IsAheadOf, after_commit};
 ghost use Rattle.cx_secure.specs.Contents.{frame_contents};
 ghost use Rattle.cx_secure.specs.Plains.{rest_len, secure_text};
 ghost use Rattle.cx_secure.specs.Sealings.{connection_key, put_refusal, unless_kept};
@@ -17,9 +18,8 @@ ghost use Rattle.cx_stream.specs.Turning.{Finished, Readied};
 use crate::faults::StreamFault;
 use crate::room::put_behind;
 use crate::stages::{Ended, Secure};
-use bytes::BytesMut;
-use cx_frame::{Blob, Duplicate, Frame, Items};
-use cx_secure::{Head, SecureRefusal, rest_len};
+use cx_frame::{Blob, Frame, Items};
+use cx_secure::{Head, SealedAhead, SecureRefusal, rest_len};
 use std::alloc::{AllocError, Global};
 
 /// The bytes of a head, as it is sealed.
@@ -188,6 +188,53 @@ impl Secure {
         }
     }
 
+    /// Seals a frame ahead, puts it behind some bytes, and changes nothing: `commit` then goes on behind it. After a refusal the bytes are as
+    /// before.
+    pub fn put_ahead(
+        &self,
+        alloc: Global,
+        into: &mut Blob,
+        frame: &Frame,
+    ) -> Result<SealedAhead, StreamFault>
+        requires { IsAnnounceable frame.now }
+        ensures ok { OnOk result (into.new ≡ into.old ++ secure_text (connection_key self.now.sealing) self.now.sealing.out.fixed self.now.sealing.out.counter frame.now) }
+        // It uses the counters from the next one on, one for each part.
+        ensures ahead { IfOk result (IsAheadOf self.now.sealing frame.now) }
+        // A frame that is put is one that is read.
+        ensures secure { OnOk result (IsSecure frame.now) }
+        ensures free { OnOk result (put_refusal self.now.sealing frame.now ≡ None) }
+        // It is refused for what was refused before, then for the counter, then for the limit.
+        ensures refused { IfErr result (IsPutFault (put_refusal self.now.sealing frame.now)) }
+        ensures err { OnErr result (into.new ≡ into.old) }
+    {
+        match self.sealing.put_ahead(alloc, into, frame) {
+            Ok(ahead) => Ok(ahead),
+            Err(refusal) => Err(StreamFault::Secure(refusal)),
+        }
+    }
+
+    /// Goes on behind a frame that was sealed ahead, where no other was committed since. It wants no memory, and nothing else is touched.
+    pub fn commit(&mut self, ahead: SealedAhead)
+        requires { ahead.from ≡ self.old.sealing.out.counter }
+        ensures { self.new ≡ record self.old { sealing = after_commit self.old.sealing ahead } }
+    {
+        self.sealing.commit(ahead);
+    }
+
+    /// The content of each part of a frame that was sealed ahead: its nonce and its plain bytes.
+    pub fn ahead_contents(
+        &self,
+        alloc: Global,
+        ahead: &SealedAhead,
+        frame: &Frame,
+    ) -> Result<Items<Blob>, AllocError>
+        requires announced { IsAnnounceable frame.now }
+        requires short { total frame.now ≤ 1048576 }
+        ensures { IfOk result (λ contents. contents ≡ frame_contents (after_commit self.now.sealing ahead.now).out frame.now) }
+    {
+        self.sealing.ahead_contents(alloc, ahead, frame)
+    }
+
     /// The content of each part of the frame that was put last: its nonce and its plain bytes.
     pub fn put_contents(&self, alloc: Global, frame: &Frame) -> Result<Items<Blob>, AllocError>
         requires announced { IsAnnounceable frame.now }
@@ -214,17 +261,5 @@ impl Secure {
     /// Ends the stream, with all bytes that it holds.
     pub fn end(self) -> Ended {
         Ended
-    }
-}
-
-// Of a stream and its copy one alone may send: two that do use a nonce twice.
-impl Duplicate for Secure {
-    fn copy(&self, alloc: Global) -> Result<Secure, AllocError> {
-        let rest = BytesMut::copy_from_slice(alloc, self.rest.as_slice())?;
-        Ok(Secure {
-            sealing: self.sealing,
-            head: self.head,
-            rest,
-        })
     }
 }

@@ -8,7 +8,8 @@ use Rattle.cx_base.specs.Texts.{is_long_part, is_part, is_part_byte}
 use Rattle.cx_frame.specs.Frames.{total}
 use Rattle.cx_rules_session.specs.Complete.{IsSizedOperation}
 use Rattle.cx_rules_session.specs.Sessions.{operation_message}
-use Rattle.cx_rules_session.proofs.Sealable.{short-operation, total-message}
+use Rattle.cx_rules_session.proofs.Sealable.{short-operation}
+use Rattle.cx_rules_session.specs.cx_rules.proofs.Carrying.{total-message}
 use Rattle.std.proofs.lemmas.List.Elements.{All-push}
 use Rattle.cx_base.specs.declared.operations.Operation.{Operation}
 use Rattle.cx_session.specs.Queue.{KeptQueue, pushed}

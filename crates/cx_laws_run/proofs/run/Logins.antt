@@ -7,14 +7,17 @@ use Rattle.cx_base.specs.declared.nodes.NodeName.{NodeName}
 use Rattle.cx_base.specs.declared.nodes.NodeName.TheVariants as node
 use Rattle.cx_journal.specs.declared.entries.Entry.{Entry}
 use Rattle.cx_journal.specs.declared.entries.Issued.{Issued}
+use Rattle.cx_laws_links.specs.cx_laws_tickets.specs.cx_rules.specs.Inputs.{Turn}
+use Rattle.cx_laws_links.specs.cx_laws_tickets.specs.cx_rules.specs.Judged.{LogsDraw}
 use Rattle.cx_laws_links.specs.cx_laws_tickets.specs.cx_rules.specs.Links.{Link, link_of}
 use Rattle.cx_laws_links.specs.cx_laws_tickets.specs.cx_rules.specs.Monitor.{MonitorStage, Offered}
 use Rattle.cx_laws_links.specs.cx_laws_tickets.specs.cx_rules.specs.Secured.{Keys}
 use Rattle.cx_laws_links.specs.cx_laws_tickets.specs.cx_run.specs.Happenings.{Entered, Happening, Nodes, Stepped, seals_from, steps}
 use Rattle.cx_laws_links.specs.cx_laws_tickets.specs.cx_run.specs.Opening.{Setup, leaked_of, leaks_entered, nodes_of, Leak}
-use Rattle.cx_laws_links.specs.cx_laws_tickets.specs.cx_run.specs.Points.{EachPoint, Point, Since, entered_until, log_since, logged_until, onto, points, points_onto, seals_at}
+use Rattle.cx_laws_links.specs.cx_laws_tickets.specs.cx_run.specs.Points.{Before, EachPoint, Point, Since, entered_until, log_since, logged_until, onto, points, points_onto, seals_at}
 use Rattle.cx_steps.specs.Onto.{EachOnto, SomeOf}
 use Rattle.cx_steps.specs.Premises.{HasSealed, HasSigned, IsExcepted, IsFresh, IsSound, Owes, Seals, Signs}
+use Rattle.cx_steps.specs.declared.seals.DrawMark.TheVariants as draw
 use Rattle.cx_steps.specs.declared.seals.Logged.{Logged}
 use Rattle.cx_steps.specs.declared.seals.SealEntry.{SealEntry}
 use Rattle.cx_steps.specs.declared.seals.SealEntry.TheVariants as seal
@@ -31,7 +34,8 @@ use Rattle.cx_laws_links.specs.cx_laws_tickets.specs.cx_laws_keys.proofs.login.R
 use Rattle.cx_laws_run.proofs.run.Asked.{Hears, IsHeardFor, all-heard}
 use Rattle.cx_laws_run.proofs.run.Events.{NodesOk, entered-append, event-after, AllOccur, good-behind}
 use Rattle.cx_laws_run.proofs.run.Opening.{Begins, begins}
-use Rattle.cx_laws_run.specs.run.Logins.{IsRenewal, LogIn, LogsIn, OwnFrame, OwnLogin, Proves, proof_of}
+use Rattle.cx_laws_run.specs.run.Logins.{ChecksOn, IsRenewal, LogIn, LogsIn, Offers, OwnFrame, OwnLogin, Proves, ProvesOnce, UncheckedSince, proof_of}
+use Rattle.cx_laws_links.specs.cx_laws_tickets.proofs.fetch.OwnDraws.{AreLogged, DrawsNew, logged-more, new-here}
 use Rattle.cx_laws_links.specs.cx_laws_tickets.proofs.authorize.Backing.{AllGood}
 use Rattle.cx_base.specs.declared.kinds.EntityType.TheVariants.{Client}
 use Rattle.std.specs.List.{AllByRecursion}
@@ -182,9 +186,88 @@ each-logs-in : (setup : Setup) (past : List Point) → EachPoint (Hears setup) p
 each-logs-in setup [] hears own = tt
 each-logs-in setup (p ∷ older) hears own = (logs-in setup older p hears.0 own.0 own.1, each-logs-in setup older hears.1 own.1)
 
+-- the turn at which a challenge was drawn, and behind which nothing was found equal on that link, is the turn at which it was drawn for a proof of before: which was found equal
+-- behind it
+module _ (number other challenge : ℕ) (offered offered2 : Offered) (same : offered.offer.challenge ≡ challenge) (same2 : offered2.offer.challenge ≡ challenge) where
+  -- at an earlier point
+  drew-at : (offers : Offered) → offers.offer.challenge ≡ challenge → (at : Point) (link : ℕ) → Offers link offers at → LogsDraw (draw.Challenge challenge) (seals_at at)
+  drew-at offers is at link o = subst (λ (c : ℕ). LogsDraw (draw.Challenge c) (seals_at at)) is o.drew
+
+  drew-before : (link : ℕ) (offers : Offered) → offers.offer.challenge ≡ challenge → (past : List Point) → UncheckedSince link (λ _ at. Offers link offers at) past
+      → Before (λ (_ : List Point) (q : Point). LogsDraw (draw.Challenge challenge) (seals_at q)) past
+  drew-before link offers is [] none = none
+  drew-before link offers is (p ∷ older) (inl o) = inl (drew-at offers is p link o)
+  drew-before link offers is (p ∷ older) (inr h) = inr (drew-before link offers is older h.2)
+
+  -- one point draws it on one link
+  one-turn : (a b : ℕ) → Turn a ≡ Turn b → a ≡ b
+  one-turn a b e = cc
+
+  one-link : (past : List Point) → EachPoint DrawsNew past → UncheckedSince number (λ _ at. Offers number offered at) past → UncheckedSince other (λ _ at. Offers other offered2 at) past
+      → number ≡ other
+  one-link [] fresh none _ = absurd none
+  one-link (p ∷ older) fresh (inl a) (inl b) = one-turn number other (sym a.turn ∙ b.turn)
+  one-link (p ∷ older) fresh (inl a) (inr b) = absurd (fresh.0 challenge (drew-at offered same p number a) (drew-before other offered2 same2 older b.2))
+  one-link (p ∷ older) fresh (inr a) (inl b) = absurd (fresh.0 challenge (drew-at offered2 same2 p other b) (drew-before number offered same older a.2))
+  one-link (p ∷ older) fresh (inr a) (inr b) = one-link older fresh.1 a.2 b.2
+
+  -- so no proof over it was found equal in between
+  none-between : (setup : Setup) (whose : Name) (past : List Point) → EachPoint DrawsNew past → UncheckedSince number (λ _ at. Offers number offered at) past
+      → Before (λ before q. UncheckedSince other (λ _ at. Offers other offered2 at) before × ChecksOn other q) past → ⊥
+  none-between setup whose [] fresh a none = none
+  none-between setup whose (q ∷ older) fresh (inl a) (inl (drew, _)) = fresh.0 challenge (drew-at offered same q number a) (drew-before other offered2 same2 older drew)
+  none-between setup whose (q ∷ older) fresh (inr a) (inl (drew, checks)) = a.1 (subst (λ (n : ℕ). ChecksOn n q) (sym (one-link older fresh.1 a.2 drew)) checks)
+  none-between setup whose (q ∷ older) fresh (inl a) (inr before) = by_place older before (λ earlier. fresh.0 challenge (drew-at offered same q number a) earlier)
+    where
+      by_place : (past : List Point) → Before (λ before q. UncheckedSince other (λ _ at. Offers other offered2 at) before × ChecksOn other q) past
+          → (Before (λ (_ : List Point) (q : Point). LogsDraw (draw.Challenge challenge) (seals_at q)) past → ⊥) → ⊥
+      by_place [] none no = none
+      by_place (r ∷ past) (inl (drew, _)) no = no (inr (drew-before other offered2 same2 past drew))
+      by_place (r ∷ past) (inr h) no = by_place past h (λ earlier. no (inr earlier))
+  none-between setup whose (q ∷ older) fresh (inr a) (inr before) = none-between setup whose older fresh.1 a.2 before
+
+-- each challenge that is drawn is new, so each proof lets in once
+proves-once : (setup : Setup) (older : List Point) (p : Point) → EachPoint DrawsNew older → ProvesOnce setup older p
+proves-once setup older p fresh number name proves before = by_place older before fresh proves.drew
+  where
+    by_place : (past : List Point)
+        → Before (λ before q. (other : ℕ) × (whose : Name) × (earlier : Proves setup other whose before q) × (earlier.offered.offer.challenge ≡ proves.offered.offer.challenge)) past
+        → EachPoint DrawsNew past → UncheckedSince number (λ _ at. Offers number proves.offered at) past → ⊥
+    by_place [] none fresh drew = none
+    by_place (q ∷ past) (inl (other, whose, earlier, same)) fresh (inl o) =
+        fresh.0 proves.offered.offer.challenge o.drew (drew-before number other proves.offered.offer.challenge proves.offered earlier.offered refl same other earlier.offered same past earlier.drew)
+    by_place (q ∷ past) (inl (other, whose, earlier, same)) fresh (inr h) =
+        let checks : ChecksOn other q =
+        record { monitor = earlier.monitor; turn = earlier.turn; mark = proof_of earlier.offered.offer earlier.client_challenge; rest = earlier.rest; checked = earlier.checked } in
+        none-between number other proves.offered.offer.challenge proves.offered earlier.offered refl same setup whose (q ∷ past) fresh (inr h) (inl (earlier.drew, checks))
+    by_place (q ∷ past) (inr h) fresh (inl o) = no_later past h (λ earlier. fresh.0 proves.offered.offer.challenge o.drew earlier)
+      where
+        no_later : (past : List Point)
+            → Before (λ before q. (other : ℕ) × (whose : Name) × (earlier : Proves setup other whose before q) × (earlier.offered.offer.challenge ≡ proves.offered.offer.challenge)) past
+            → (Before (λ (_ : List Point) (q : Point). LogsDraw (draw.Challenge proves.offered.offer.challenge) (seals_at q)) past → ⊥) → ⊥
+        no_later [] none no = none
+        no_later (r ∷ past) (inl (other, whose, earlier, same)) no =
+            no (inr (drew-before number other proves.offered.offer.challenge proves.offered earlier.offered refl same other earlier.offered same past earlier.drew))
+        no_later (r ∷ past) (inr h) no = no_later past h (λ earlier. no (inr earlier))
+    by_place (q ∷ past) (inr h) fresh (inr drew) = by_place past h fresh.1 drew.2
+
+each-once : (setup : Setup) (past : List Point) → EachPoint DrawsNew past → EachPoint (ProvesOnce setup) past
+each-once setup [] fresh = tt
+each-once setup (p ∷ older) fresh = (proves-once setup older p fresh.1, each-once setup older fresh.1)
+
+-- what the points before drew is in their log
+until-logged : (setup : Setup) (past : List Point) → AreLogged past (logged_until setup past)
+until-logged setup [] = λ mark none. absurd none
+until-logged setup (p ∷ older) = subst (λ (l : List Logged). AreLogged (p ∷ older) l) (behind-onto p.happening.node p.happening.line (seals_at p) (logged_until setup older))
+    (logged-more p older (logged_until setup older) p.happening.node p.happening.line (until-logged setup older))
+
 pub run-logins : (run : WholeRun) (setup : Setup) (hs : List Happening) → run.leaked ≡ leaked_of setup → AllByRecursion (λ (l : Leak). l.client.kind ≡ Client) setup.leaks
     → AllOccur run (nodes_of setup) hs → IsSound (leaked_of setup) (log_since setup hs) → IsFresh (log_since setup hs) → LogIn setup (points setup hs)
-run-logins run setup hs same clients occur sound fresh =
-    each-logs-in setup (points setup hs) (all-heard setup hs) (run-points run setup hs same clients occur sound fresh (Owned setup)
-    (λ past nodes h us J told i ok good g.
-    (event-signed run setup same (log_since setup hs) us J past nodes h i ok g, event-sealed run setup same (log_since setup hs) us J past nodes h i ok g)))
+run-logins run setup hs same clients occur sound fresh = record {
+  asked = each-logs-in setup (points setup hs) (all-heard setup hs) (run-points run setup hs same clients occur sound fresh (Owned setup)
+      (λ past nodes h us J told i ok good g.
+      (event-signed run setup same (log_since setup hs) us J past nodes h i ok g, event-sealed run setup same (log_since setup hs) us J past nodes h i ok g)));
+  once = each-once setup (points setup hs) (run-points run setup hs same clients occur sound fresh DrawsNew
+      (λ past nodes h us J told i ok good g.
+      new-here run.leaked (log_since setup hs) h.node h.line past (record { nodes = nodes; happening = h }) (logged_until setup past) g (until-logged setup past)));
+}

@@ -305,4 +305,4 @@ run-origins run setup hs same good clients occur sound fresh =
     all-back setup (points setup hs) (all-gained setup hs)
     (run-points run setup hs same clients occur sound fresh (Knows setup)
     (λ past nodes h us J told i ok goods g. knows-here run setup same good (log_since setup hs) past nodes h us J told i ok goods g))
-    stands.asked (run-logins run setup hs same clients occur sound fresh)
+    stands.asked (run-logins run setup hs same clients occur sound fresh).asked

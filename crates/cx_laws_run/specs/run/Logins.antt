@@ -17,7 +17,7 @@ use Rattle.cx_laws_links.specs.cx_laws_tickets.specs.cx_rules.specs.Secured.{Sec
 use Rattle.cx_laws_links.specs.cx_laws_tickets.specs.cx_rules.specs.declared.responses.Bearer.{Bearer}
 use Rattle.cx_laws_links.specs.cx_laws_tickets.specs.cx_run.specs.Happenings.{Happening}
 use Rattle.cx_laws_links.specs.cx_laws_tickets.specs.cx_run.specs.Opening.{Setup, leaked_of}
-use Rattle.cx_laws_links.specs.cx_laws_tickets.specs.cx_run.specs.Points.{EachPoint, Point, Since, entries_at, logged_until, nodes_past, opens_at, points, seals_at}
+use Rattle.cx_laws_links.specs.cx_laws_tickets.specs.cx_run.specs.Points.{Before, EachPoint, Point, Since, entries_at, logged_until, nodes_past, opens_at, points, seals_at}
 use Rattle.cx_steps.specs.Onto.{SomeOf}
 use Rattle.cx_steps.specs.Premises.{Seals, Signs}
 use Rattle.cx_steps.specs.declared.seals.DrawMark.TheVariants as draw
@@ -57,7 +57,7 @@ UncheckedSince number P [] = ⊥
 UncheckedSince number P (p ∷ older) = P older p ⊎ ((opens_at node.Monitor number p ≡ false) × (ChecksOn number p → ⊥) × UncheckedSince number P older)
 
 -- the turn of the monitor's link of this number at which a proof was found equal, under the secret that was drawn as this entity's own, over the
--- challenge that was drawn on that link and offered to this entity; and the first since that draw: so no challenge lets in twice
+-- challenge that was drawn on that link and offered to this entity; and the first since that draw: so no draw of that link lets in twice on it
 pub record Proves (setup : Setup) (number : ℕ) (name : Name) (older : List Point) (p : Point) : Type 0 where
   pub monitor : p.happening.node ≡ node.Monitor
   pub turn : p.happening.input ≡ Turn number
@@ -119,5 +119,13 @@ LogsIn setup older p = (ticket : Issued) → Contains (entries_at p) (entry.Issu
     ⊎ ((renewal : IsRenewal setup older p ticket) × Since node.Monitor renewal.number (OwnLogin setup renewal.number ticket.entity) older
     × OwnFrame setup ticket.entity older p)
 
-abbrev pub LogIn : Setup → List Point → Type 0
-LogIn setup past = EachPoint (LogsIn setup) past
+-- a proof that was found equal at this point was found so at no point before, on whichever link: no proof over its challenge was
+abbrev pub ProvesOnce : Setup → List Point → Point → Type 0
+ProvesOnce setup older p = (number : ℕ) (name : Name) (proves : Proves setup number name older p)
+    → Before (λ before q. (other : ℕ) × (whose : Name) × (earlier : Proves setup other whose before q) × (earlier.offered.offer.challenge ≡ proves.offered.offer.challenge)) older
+    → ⊥
+
+-- at each of these points: one proof, one login
+pub record LogIn (setup : Setup) (past : List Point) : Type 0 where
+  pub asked : EachPoint (LogsIn setup) past
+  pub once : EachPoint (ProvesOnce setup) past
