@@ -1,5 +1,5 @@
 -- What words spell that are a command's.
-use Rattle.std.proofs.Common.{ℕ, ◌≡◌, ◌≤◌, Bool, true, false, List, [], ◌∷◌, Option, Some, None, string_bytes, inl, inr, refl, sym, ◌∙◌, subst, arith}
+use Rattle.std.proofs.Common.{ℕ, ◌≡◌, ◌≤◌, ◌⊎◌, Bool, true, false, List, [], ◌∷◌, Option, Some, None, string_bytes, inl, inr, refl, sym, ◌∙◌, subst, arith}
 use Rattle.std.specs.Prelude.{◌&&◌, nat_le, if◌then◌else◌, codes, option_and_then, option_map}
 use Rattle.std.specs.Str.{bytes_eq}
 use Rattle.std.proofs.lemmas.Bool.Decides.{nat_tests}
@@ -15,7 +15,7 @@ use Rattle.cx_top.specs.Commands.{command_word}
 use Rattle.cx_top.specs.Statuses.{IsServed}
 use Rattle.cx_top.specs.declared.commands.Subcommand.{Subcommand}
 use Rattle.cx_top.specs.declared.program_end.ProgramEnd.{ProgramEnd}
-use Rattle.cx_top.specs.declared.status.Status.TheVariants.{Broken, Done, OutOfMemory, Usage, WriteFault}
+use Rattle.cx_top.specs.declared.status.Status.TheVariants.{OutOfMemory, Usage, WriteFault}
 use Rattle.cx_help.specs.declared.scripts.NodeKind.{NodeKind}
 use Rattle.cx_keyring.specs.cx_words.specs.Words.{number_of}
 use Rattle.cx_command_line.specs.declared.reading.Misread.{Misread}
@@ -239,23 +239,15 @@ module _ {I O K L C D : Type 0} (words : List Word) (a b : Streams I O) (v w : L
   pub node_usage : (kind : NodeKind) (name : Option Name) (Ran : List ℕ → NodeEnd → List Entry → Type 0) (asked : Asked) → spelled words ≡ Some asked → NodeAnswers kind name Ran a b v w result → UsageAnswers a b v w words result
   node_usage kind name Ran asked is answers = unused words a b v w result asked is (node_is_none kind name Ran a b v w result answers)
 
-  -- a drill's is only where its output's count rose, and then nothing is written
+  -- nor is a drill's
   pub drill_usage : (handlers : Handlers) (command : DrillCommand) (ended : ProgramEnd) → spelled words ≡ Some (Drill command) → result.status ≡ Text ended.status
       → DrillEnds handlers command a.taken b.taken a.misses b.misses a.out b.out ended → b.input ≡ a.input → w ≡ v → UsageAnswers a b v w words result
-  drill_usage handlers command ended is status ends unread stood = record {
-    status = λ none. absurd (let no : None ≡ Some (Drill command) = sym none ∙ is in cc);
-    told = λ none. absurd (let no : None ≡ Some (Drill command) = sym none ∙ is in cc);
-    only = λ usage up. absurd (subst IsServed (ended_so usage) (ends.complete up));
-    unread = λ usage. unread;
-    unwritten = λ usage. ends.untouched
-        (λ done. let no : Usage ≡ Done = sym (ended_so usage) ∙ done in cc)
-        (λ broken. let no : Usage ≡ Broken = sym (ended_so usage) ∙ broken in cc)
-        (λ write. let no : Usage ≡ WriteFault = sym (ended_so usage) ∙ write in cc);
-    stood = λ usage. stood;
-  }
+  drill_usage handlers command ended is status ends unread stood =
+      unused words a b v w result (Drill command) is (λ usage. by_end (let same : Text ended.status ≡ Text Usage = sym status ∙ usage in cc) ends.ends)
     where
-      ended_so : result.status ≡ Text Usage → ended.status ≡ Usage
-      ended_so usage = let same : Text ended.status ≡ Text Usage = sym status ∙ usage in cc
+      by_end : ended.status ≡ Usage → IsServed ended.status ⊎ (ended.status ≡ WriteFault) → ⊥
+      by_end usage (inl served) = subst IsServed usage served
+      by_end usage (inr write) = let no : Usage ≡ WriteFault = sym usage ∙ write in cc
 
 -- ---- the drill that ran is the one that was asked for
 

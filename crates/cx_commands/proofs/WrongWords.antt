@@ -30,7 +30,7 @@ module _ {I O K L C D : Type 0} (words : List Word) (a b : Streams I O) (v w : L
   unused asked is never = record {
     status = λ none. absurd (let other : None ≡ Some asked = sym none ∙ is in cc);
     told = λ none. absurd (let other : None ≡ Some asked = sym none ∙ is in cc);
-    only = λ usage up. absurd (never usage);
+    only = λ usage. absurd (never usage);
     unread = λ usage. absurd (never usage);
     unwritten = λ usage. absurd (never usage);
     stood = λ usage. absurd (never usage);
@@ -42,7 +42,7 @@ pub misread_usage : {I O K L C D : Type 0} (words : List Word) (a : Streams I O)
 misread_usage words a v misread.Usage result none status told = record {
   status = λ _. status;
   told = λ _. told;
-  only = λ _ _. none;
+  only = λ _. none;
   unread = λ _. refl;
   unwritten = λ _. refl;
   stood = λ _. refl;
@@ -50,7 +50,7 @@ misread_usage words a v misread.Usage result none status told = record {
 misread_usage words a v misread.OutOfMemory result some status told = record {
   status = λ none. absurd (let no : false ≡ true = sym (ap (λ (o : Option Asked). is_some o) none) ∙ some in cc);
   told = λ none. absurd (let no : false ≡ true = sym (ap (λ (o : Option Asked). is_some o) none) ∙ some in cc);
-  only = λ usage up. absurd (let no : Text Usage ≡ Text OutOfMemory = sym usage ∙ status in cc);
+  only = λ usage. absurd (let no : Text Usage ≡ Text OutOfMemory = sym usage ∙ status in cc);
   unread = λ _. refl;
   unwritten = λ _. refl;
   stood = λ _. refl;

@@ -1,5 +1,5 @@
 -- What the command `drill` answers.
-use Rattle.std.specs.Prelude.{ℕ, ◌≡◌, ◌≢◌, ◌≤◌, ◌⊎◌, true, false, List, Option, string_bytes}
+use Rattle.std.specs.Prelude.{ℕ, ◌≡◌, ◌≢◌, ◌<◌, ◌≤◌, ◌⊎◌, true, false, List, Option, string_bytes}
 use Rattle.cx_base.specs.Streams.{Rose}
 use Rattle.cx_command_line.specs.declared.commands.DrillCommand.{DrillCommand}
 use Rattle.cx_desk.specs.Handlers.{Handlers}
@@ -24,7 +24,9 @@ pub record DrillEnds {O : Type 0} (handlers : Handlers) (command : DrillCommand)
   pub broken : ended.status ≡ Broken → DrillWrites handlers command.clients command.seed true taken after (string_bytes ended.told)
   pub write : ended.status ≡ WriteFault → Rose misses missed
   pub front : ended.status ≡ WriteFault → DrillWritesFront handlers command.clients command.seed taken after
+  pub rose : misses < missed → DrillWritesFront handlers command.clients command.seed taken after
   pub untouched : ended.status ≢ Done → ended.status ≢ Broken → ended.status ≢ WriteFault → written ≡ out
+  pub ends : IsServed ended.status ⊎ (ended.status ≡ WriteFault)
   pub complete : ¬ Rose misses missed → IsServed ended.status
   pub writes : misses ≤ missed
 

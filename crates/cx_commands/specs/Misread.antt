@@ -1,6 +1,5 @@
 -- How the program ends whose words aren't read, and what its status `Usage` means.
 use Rattle.std.specs.Prelude.{ℕ, ◌≡◌, ◌-◌, ◌⊎◌, List, [], get_or, Option, Some, None, string_bytes}
-use Rattle.cx_base.specs.Streams.{Rose}
 use Rattle.cx_help.specs.command.Sentences.{why_text}
 use Rattle.cx_help.specs.command.Wrong.{wrong_of}
 use Rattle.cx_help.specs.declared.command_wrong.WrongUsage.{WrongUsage}
@@ -54,8 +53,8 @@ module _ {I O K L C D : Type 0} (a b : Streams I O) (v w : Lent K L C D) where
     -- words that spell no command end with it, and which of them is wrong is told
     pub status : spelled words ≡ None → result.status ≡ Text Usage
     pub told : spelled words ≡ None → IsWrongTold words (string_bytes result.told)
-    -- no others do, where the output's count of faults didn't rise
-    pub only : result.status ≡ Text Usage → ¬ Rose a.misses b.misses → spelled words ≡ None
+    -- no others do
+    pub only : result.status ≡ Text Usage → spelled words ≡ None
     -- with it nothing is read, written or done
     pub unread : result.status ≡ Text Usage → b.input ≡ a.input
     pub unwritten : result.status ≡ Text Usage → b.out ≡ a.out

@@ -1,4 +1,4 @@
-//! The laws of a run until it breaks a premise.
+//! The laws of each front of a run that keeps both premises by its own log.
 
 ghost use Rattle.std.specs.Prelude.{ℕ, List};
 ghost use Rattle.cx_desk.specs.Handlers.{Handlers};
@@ -11,7 +11,7 @@ ghost use Rattle.cx_laws_run.specs.cx_run.specs.Opening.{Setup};
 ghost use Rattle.cx_laws_run.specs.cx_run.specs.Runs.{setup_of, trace};
 ghost use Rattle.cx_laws_run.specs.cx_schedule.specs.Files.{Lines};
 
-/// All laws that are said of a run that is sound and fresh hold of each front of its events that is: until then everything holds, also where a premise is broken behind
+/// All laws that are said of a run that is sound and fresh hold of each front of its events whose own log is so, also where a premise is broken behind
 /// it.
 pub fn front_laws()
     // Of every list of events that may happen, from every opening, in which the operations that clients are told to send have a spelling.

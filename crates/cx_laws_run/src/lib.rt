@@ -1,7 +1,7 @@
 //! Laws over every run: over every list of events of the nodes, from every opening, and so over every schedule.
 //! What daemons handle is what clients sent, over every run: in order, each once.
 //! What clients are told is so, over every run: how operations of their own ended, each once; and so all laws of a journal hold of it.
-//! Until a run breaks a premise everything holds.
+//! Of each front of a run that keeps both premises by its own log everything holds.
 //! Coverage by time, over every run: how long a daemon holds the generation of each unexpired ticket of its service.
 #![tactic(auto)]
 

@@ -17,6 +17,7 @@ use Rattle.cx_login.specs.cx_control.specs.declared.idents.ClientIdent.{ClientId
 use Rattle.cx_login.specs.cx_control.specs.declared.idents.ServerIdent.{ServerIdent}
 use Rattle.cx_login.specs.cx_enc.specs.Forms.{Form, little}
 use Rattle.cx_login.specs.cx_enc.specs.Values.{addr_form}
+use Rattle.cx_login.specs.cx_journal.specs.declared.entries.Entry.{Entry}
 use Rattle.cx_login.specs.cx_journal.specs.declared.faults.BytesFault.{BytesFault}
 use Rattle.cx_login.specs.cx_journal.specs.declared.faults.BytesFault.TheVariants as fault
 use Rattle.cx_login.specs.cx_journal.specs.declared.faults.LoginFault.TheVariants.{SignatureWrong}
@@ -50,14 +51,15 @@ use Rattle.cx_rules.proofs.Sizes.{few-parts, plain-sent, secure-sent}
 -- ---- of every node
 
 -- a row by which the link goes on in a stage, with these bytes sent
-pub carried-on : {Own Stage : Type 0} (n : Node Own Stage) (number : ℕ) (behind : Link Stage) (stage : Stage) (bytes : List ℕ) (row : Row Own Stage) → behind.number ≡ number
-    → row.link ≡ Some (record behind { stage = stage }) → row.sends ≡ bytes → CarriesOn n.links behind stage bytes row.entries (carried_out n number true row)
-carried-on {Own} {Stage} n number behind stage bytes row same linked sent = record {
+pub carried-on : {Own Stage : Type 0} (n : Node Own Stage) (number : ℕ) (behind : Link Stage) (stage : Stage) (bytes : List ℕ) (entries : List Entry) (row : Row Own Stage)
+    → behind.number ≡ number → row.link ≡ Some (record behind { stage = stage }) → row.sends ≡ bytes → row.entries ≡ entries
+    → CarriesOn n.links behind stage bytes entries (carried_out n number true row)
+carried-on n number behind stage bytes entries row same linked sent entered = record {
   sends = ap (piece number) sent ∙ ap (λ (k : ℕ). piece k bytes) (sym same);
   opens = refl;
   shuts = ap (shuts number) linked;
   turned = refl;
-  entries = refl;
+  entered = entered;
   links_are = ap (links_behind n.links number row.sends) linked
       ∙ ap (λ (b : List ℕ). put_link (record behind { stage = stage; sent = behind.sent ++ b }) n.links) sent;
 }
@@ -103,8 +105,13 @@ short-client_ident mon_client gid flags cookie four =
     record { addr = mon_client.address; target = no_addr; gid = gid; global_seq = mon_client.global_seq; supported = 0; required = 0; flags = flags; cookie = cookie } in
     let behind : List ℕ = client_text gid mon_client.global_seq flags cookie in
     let size : length (client_ident_layout.form.text ident) ≡ 78 + length mon_client.address.ip =
-    omega (arith, length-address mon_client.address, length-address no_addr, length-append (addr_form.text mon_client.address) (addr_form.text no_addr ++ behind),
-    length-append (addr_form.text no_addr) behind) in
+    omega (
+      arith,
+      length-address mon_client.address,
+      length-address no_addr,
+      length-append (addr_form.text mon_client.address) (addr_form.text no_addr ++ behind),
+      length-append (addr_form.text no_addr) behind,
+    ) in
     omega (arith, total-control 8 client_ident_layout.form ident, size, four)
 
 short-hello : total (own_hello Mon) ≡ 16
@@ -122,10 +129,7 @@ module _ (m : MonitorNode) (number reading : ℕ) (draw : List ℕ) where
   turn-carries link behind stage bytes row found same handled linked sent entries own =
       let P : Outcome MonitorNode → Type 0 = λ o. CarriesOn m.links behind stage bytes [] o × (o.state.own ≡ (noted m).own) in
       let is : monitor_rule m (Turn number) reading draw ≡ carried_out (noted m) number true row = turn-handles m number reading draw link row found handled in
-      let carries : CarriesOn m.links behind stage bytes row.entries (carried_out (noted m) number true row) =
-      carried-on (noted m) number behind stage bytes row (same ∙ found-number number m.links link found) linked sent in
-      subst P (sym is)
-      (record { sends = carries.sends; opens = refl; shuts = carries.shuts; turned = refl; entries = entries; links_are = carries.links_are }, own)
+      subst P (sym is) (carried-on (noted m) number behind stage bytes [] row (same ∙ found-number number m.links link found) linked sent entries, own)
 
   -- the peer's banner: HELLO is sent
   pub greets : (h : HearsBanner m number) → CarriesOn m.links h.behind AwaitsHello (frame_text (own_hello Mon)) [] (monitor_rule m (Turn number) reading draw)

@@ -5,7 +5,7 @@ pub mod AlikeRows
 pub mod MonClientDrawing
 pub mod MonClientForgets
 pub mod MonClientWalk
-pub mod Asking
+pub mod MonClientAnswering
 pub mod Carrying
 pub mod Drawing
 pub mod Fitting

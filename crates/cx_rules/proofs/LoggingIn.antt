@@ -252,7 +252,7 @@ login-given m number offered ask reading draw h is_due =
       issued = t.each;
       sends = plain-piece number f (login_signature draw (take h.behind.taken h.behind.received)).bytes;
       entered = λ service caps wanted has. ticket-entered name n.gid service caps handed.save t.tickets (t.tells service caps (login-listed ask.other_keys service wanted) has);
-      carries = carried-on (noted m) number h.behind stage done.bytes row (plain-number h.link h.behind h.frame h.next ∙ found-number number m.links h.link h.found) refl refl;
+      carries = carried-on (noted m) number h.behind stage done.bytes row.entries row (plain-number h.link h.behind h.frame h.next ∙ found-number number m.links h.link h.found) refl refl refl;
     } in
     subst (GivesLogin m number offered ask reading draw is_due.principal h.behind) (sym is) gives
 
@@ -287,6 +287,6 @@ challenge-given m number hello reading draw h principal known =
     let gives : GivesChallenge m number hello draw principal h.behind (carried_out (noted m) number true row) = record {
       sends = plain-alone number f;
       own = refl;
-      carries = carried-on (noted m) number h.behind (AwaitsProof offered) (frame_text f) row (plain-number h.link h.behind h.frame h.next ∙ found-number number m.links h.link h.found) refl refl;
+      carries = carried-on (noted m) number h.behind (AwaitsProof offered) (frame_text f) [] row (plain-number h.link h.behind h.frame h.next ∙ found-number number m.links h.link h.found) refl refl refl;
     } in
     subst (GivesChallenge m number hello draw principal h.behind) (sym is) gives

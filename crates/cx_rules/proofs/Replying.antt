@@ -139,7 +139,7 @@ reply-sent m number reading draw request h told tickets reply answered short =
       made = refl;
       sends = secure-piece number h.keys 17 _ _;
       server = refl;
-      carries = carried-on (noted m) number h.behind (Open (under s sent.keys) (record h.bearer { last = d.seq })) sent.bytes (with_opened h.opened row) numbered refl refl;
+      carries = carried-on (noted m) number h.behind (Open (under s sent.keys) (record h.bearer { last = d.seq })) sent.bytes row.entries (with_opened h.opened row) numbered refl refl refl;
     } in
     subst (λ (o : Outcome MonitorNode). SendsReply m number reading draw h reply o × (o.out.entries ≡ login_entries o.out.save tickets)) (sym is) (sends, refl)
 

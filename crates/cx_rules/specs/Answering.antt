@@ -1,7 +1,7 @@
 -- What is due of the monitor, and what it answers then ("detailed cephx protocol": a right proof is answered by the global id and tickets, a
 -- request on an open link by tickets or by rotating secrets). What a step answers at most (`Judged`) is kept by rules that deny everything too;
 -- here stands what it has to answer.
-use Rattle.std.specs.Prelude.{ℕ, Bool, ◌≡◌, ◌&&◌, ◌||◌, ◌==◌, ◌<◌, false, ◌≢◌, ◌⊎◌, ◌+◌, ◌-◌, ◌^◌, ◌≤◌, List, [], ◌∷◌, ◌++◌, filter, find, length, map, take, is_some, IsSome, IsTrue, Option, Some, Ok}
+use Rattle.std.specs.Prelude.{ℕ, Bool, ◌≡◌, ◌&&◌, ◌||◌, ◌==◌, ◌<◌, true, false, ◌≢◌, ◌⊎◌, ◌+◌, ◌-◌, ◌^◌, ◌≤◌, List, [], ◌∷◌, ◌++◌, filter, find, length, map, take, is_some, IsSome, IsTrue, Option, Some, Ok}
 use Rattle.std.specs.List.{AllByRecursion, list_any}
 use Rattle.cx_base.specs.Names.{Name, is_daemon_type, is_id, same_kind}
 use Rattle.cx_base.specs.declared.kinds.EntityType.{EntityType}

@@ -11,7 +11,7 @@ pub record CarriesOn {Own Stage : Type 0} (links : List (Link Stage)) (behind : 
   pub opens : o.out.opens ≡ []
   pub shuts : o.out.shuts ≡ []
   pub turned : o.out.turned ≡ true
-  pub entries : o.out.entries ≡ entries
+  pub entered : o.out.entries ≡ entries
   pub links_are : o.state.links ≡ put_link (record behind { stage = stage; sent = behind.sent ++ bytes }) links
 
 -- a turn of one part of a node comes to a row by which its link goes on so: the part is this behind it, the link goes on in this stage from what was taken of it, these bytes
@@ -23,4 +23,4 @@ pub record HandsOn {Own Stage : Type 0} (own : Own) (behind : Link Stage) (stage
   pub link : row.link ≡ Some (record behind { stage = stage })
   pub sends : row.sends ≡ bytes
   pub save : row.save ≡ None
-  pub entries : row.entries ≡ entries
+  pub entered : row.entries ≡ entries

@@ -14,7 +14,7 @@ pub use Rattle.cx_login.specs.cx_wire as cx_wire
 pub mod Abridged
 pub mod Acceptor
 pub mod Answering
-pub mod Asking
+pub mod MonClientAnswering
 pub mod Carrying
 pub mod Connector
 pub mod Fronts

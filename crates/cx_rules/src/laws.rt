@@ -20,7 +20,7 @@ ghost use Rattle.cx_stream.specs.cx_frame.specs.Frames.{frame_text};
 ghost use Rattle.cx_base.specs.declared.kinds.EntityType.TheVariants.{Mon};
 ghost use Rattle.cx_rules.specs.Connector as connector;
 ghost use Rattle.cx_rules.specs.Connector.{Login, MonClientArrival, Stage, client_ident, login_request};
-ghost use Rattle.cx_rules.specs.Asking.{HearsChallenge, HearsHelloOf, HearsLogin, HearsReply, HearsRightSignature, HearsServerIdent, own_signature, proof_frame};
+ghost use Rattle.cx_rules.specs.MonClientAnswering.{HearsChallenge, HearsHelloOf, HearsLogin, HearsReply, HearsRightSignature, HearsServerIdent, own_signature, proof_frame};
 ghost use Rattle.cx_rules.specs.Fronts.{Next, banner_next};
 ghost use Rattle.cx_rules.specs.Holdings.{held_login};
 ghost use Rattle.cx_rules.specs.Links.{Link};
@@ -28,9 +28,9 @@ ghost use Rattle.cx_rules.specs.Requests.{Requests, behind_reply, behind_request
 ghost use Rattle.cx_rules.specs.declared.requests.Want.TheVariants.{Rotating, Tickets};
 ghost use Rattle.cx_login.specs.Held.{Held};
 ghost use Rattle.cx_login.specs.Unlocking.{told_each, unlocked};
-ghost use Rattle.cx_login.specs.cx_journal.specs.declared.premises.KeyKind.TheVariants.{Principal};
+ghost use Rattle.cx_login.specs.cx_journal.specs.declared.premises.KeyKind.TheVariants as kind;
 ghost use Rattle.cx_login.specs.cx_wire.specs.declared.bodies.Reply.TheVariants as given;
-ghost use Rattle.cx_login.specs.cx_wire.specs.declared.parts.TicketPart.{TicketPart};
+ghost use Rattle.cx_login.specs.cx_wire.specs.declared.tickets.TicketPart.{TicketPart};
 ghost use Rattle.cx_keyserver.specs.cx_dice.specs.Draws.{cookie_of};
 ghost use Rattle.cx_keyserver.specs.cx_sealed.specs.Records.{rotating_reply_layout};
 ghost use Rattle.cx_keyserver.specs.cx_sealed.specs.declared.rotating_reply.RotatingReply.{RotatingReply};
@@ -127,7 +127,7 @@ pub fn asking_laws()
         (heard : HearsReply a s requests Tickets (given.Tickets parts)) → (told_each requests.session parts).value ≡ Some held
         → HandsOn (with_tickets a.own held) heard.reads.behind (connector.Open (under s heard.reads.keys) (behind_reply requests)) [] [] (connector.turned_at a (connector.Open s requests)) }
     ensures takes_generations { (a : MonClientArrival) (s : Secured) (requests : Requests) (reading : ℕ) (blob : List ℕ) (told : RotatingReply)
-        (heard : HearsReply a s requests (Rotating reading) (given.Rotating blob)) → (unlocked rotating_reply_layout.form Principal a.own.secret blob).value ≡ Some told
+        (heard : HearsReply a s requests (Rotating reading) (given.Rotating blob)) → (unlocked rotating_reply_layout.form kind.Principal a.own.secret blob).value ≡ Some told
         → HandsOn (with_view a.own reading told.generations) heard.reads.behind (connector.Open (under s heard.reads.keys) (behind_reply requests)) []
         (fetched_entry a.own.name reading told.generations ∷ []) (connector.turned_at a (connector.Open s requests)) }
 {}

@@ -1,6 +1,6 @@
 //! The command `drill`.
 
-ghost use Rattle.std.specs.Prelude.{◌≡◌, ◌≢◌, ◌≤◌, ◌++◌, false, true, IfOk, OnOk, string_bytes};
+ghost use Rattle.std.specs.Prelude.{◌≡◌, ◌≢◌, ◌<◌, ◌≤◌, ◌⊎◌, ◌++◌, false, true, IfOk, OnOk, string_bytes};
 ghost use Rattle.cx_base.specs.Streams.{Rose};
 ghost use Rattle.cx_desk.specs.Held.{handlers_of};
 ghost use Rattle.cx_schedule.specs.Drills.{drill_script, drill_text};
@@ -25,6 +25,7 @@ use std::alloc::{AllocError, Global};
 
 /// Runs the schedule of a drill of so many clients, 1 to 1,000, by a seed, and writes to `out` how many entries of five kinds its journal has, a line each, and
 /// behind them, where a premise is broken, the line of the first breach. The operations are served by `desk`.
+#[tactic(auto, using(crate::proofs::Written::drill_front))]
 pub fn drill<O: Sink>(
     alloc: Global,
     clients: u32,
@@ -41,8 +42,12 @@ pub fn drill<O: Sink>(
     ensures write { result.status ≡ Status.WriteFault → Rose (O.faults out.old) (O.faults out.new) }
     ensures front { result.status ≡ Status.WriteFault → DrillWritesFront (handlers_of desk.now) clients seed (O.taken out.old) (O.taken out.new) }
     ensures untouched { result.status ≢ Status.Done → result.status ≢ Status.Broken → result.status ≢ Status.WriteFault → out.new ≡ out.old }
+    // It ends with no other status than that of one that is served, of an output that failed, and of want of memory.
+    ensures ends { IsServed result.status ⊎ (result.status ≡ Status.WriteFault) }
     // It is served, where memory isn't wanting and the output takes it.
     ensures complete { ¬ Rose (O.faults out.old) (O.faults out.new) → IsServed result.status }
+    // Where the count of the output's faults rose, a front of it was written.
+    ensures rose { O.faults out.old < O.faults out.new → DrillWritesFront (handlers_of desk.now) clients seed (O.taken out.old) (O.taken out.new) }
     ensures writes { O.faults out.old ≤ O.faults out.new }
 {
     let Made {

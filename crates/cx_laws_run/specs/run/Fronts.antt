@@ -1,4 +1,4 @@
--- What holds of a run until it breaks a premise.
+-- What holds of each front of a run that keeps both premises by its own log.
 use Rattle.std.specs.Prelude.{◌≡◌, List, ◌++◌}
 use Rattle.cx_base.specs.Names.{Name}
 use Rattle.cx_laws_links.specs.cx_laws_tickets.specs.cx_run.specs.Happenings.{Happening}
@@ -24,7 +24,8 @@ pub record HoldsOf (setup : Setup) (hs : List Happening) : Type 0 where
   pub paced : FetchesPaced setup (points setup hs)
   pub fetched : AreOfMoments (points setup hs)
 
--- it holds of each front of these events that keeps both premises: so of all that happened before an event that breaks one, whatever comes behind it
+-- it holds of each front of these events whose own log is sound and fresh, whatever comes behind it. (A front may break a premise that the whole log keeps: where a key is
+-- found leaked only behind it.)
 abbrev pub HoldUntilBreach : Setup → List Happening → Type 0
 HoldUntilBreach setup hs =
     (front rest : List Happening) → hs ≡ front ++ rest → IsSound (leaked_of setup) (log_since setup front) → IsFresh (log_since setup front) → HoldsOf setup front

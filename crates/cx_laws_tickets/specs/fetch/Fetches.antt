@@ -17,12 +17,12 @@ pub record IsMoment (service : EntityType) (generations : List Generation) (p : 
   pub saved : generations ≡ saved_past service p
   pub current : is_full generations ≡ false → IsTrue (is_current p.happening.reading generations)
 
--- this daemon had an event at this reading, at which it asked
+-- this daemon had an event at this reading: that of its asking, of which no more is said here
 pub record IsAsking (daemon : Name) (asked : ℕ) (p : Point) : Type 0 where
   pub daemon_is : p.happening.node ≡ node.Entity daemon
   pub reading : p.happening.reading ≡ asked
 
--- at one of these points the monitor had what the daemon fetched, and before that point the daemon asked for it
+-- at one of these points the monitor had what the daemon fetched, and before that point the daemon had an event at the reading that is entered as that of its asking
 pub record IsOfMoment (f : Fetched) (past : List Point) : Type 0 where
   pub kind : is_daemon_type f.daemon.kind ≡ true
   pub moment : Before (λ older p. IsMoment f.daemon.kind f.generations p × Before (λ _ at. IsAsking f.daemon f.asked at) older) past

@@ -30,13 +30,13 @@ serves handlers kind = has_handler kind handlers
 -- the journal is that of the run of the schedule over these handlers, and this is found of its premises: that it is sound and fresh, or its first breach.
 -- Either way each ticket was asked for, has the keyring's caps, was made at the reading of its event and lives for one life; each look is at what the daemon fetched last,
 -- and a ticket is refused as expired at the reading of the event alone; each operation is handled in an admitted session and ends as the caps of that session and the
--- handlers say; what is said of a node in entries of sessions, operations and answers, that node entered; and of each front of the events that is sound and fresh all that
--- follows holds. Where it is sound and fresh, the other laws over every run hold: all laws of a journal (sessions are backed by
+-- handlers say; what is said of a node in entries of sessions, operations and answers, that node entered; and of each front of the events whose own log is sound and fresh all
+-- that follows holds. Where it is sound and fresh, the other laws over every run hold: all laws of a journal (sessions are backed by
 -- tickets, no key that is there is denied, a global id is given once, what is handled under a cookie for an entity that isn't leaked is a front of what it sent
 -- under it, and what it is told of an operation is how that ended); that this operation is the one that it sent under that number; that an issued ticket is said to have expired only where it has; that each ticket of an entity
--- that isn't leaked was asked for by its own node; that each session goes back to its ticket's issue; that, where the clocks of the monitor and of a daemon never fall,
--- the looks of this daemon cover the live tickets of its type; and that what daemons fetch is paced, was saved by the monitor at a moment, and asked for before at the
--- reading that is entered
+-- that isn't leaked was asked for by its own node, and no challenge lets in twice; that each session goes back to its ticket's issue; that, where the clocks of the monitor and of a daemon never fall,
+-- the looks of this daemon cover the live tickets of its type; and that what daemons fetch is paced, was saved by the monitor at a moment, before which
+-- the daemon had an event at the reading that is entered as that of its asking
 pub record IsReplayOf (handlers : Handlers) (script : List Numbered) (journal : List Entry) (found : Option Broken) : Type 0 where
   pub run : journal ≡ run_journal handlers script
   pub found_so : IsFoundOf handlers script found

@@ -1,4 +1,4 @@
-use Rattle.cx_rules.proofs.Asking.{asks, greets, holds, opens-client, opens-daemon, proves-it, takes-generations, takes-login, takes-tickets}
+use Rattle.cx_rules.proofs.MonClientAnswering.{asks, greets, holds, opens-client, opens-daemon, proves-it, takes-generations, takes-login, takes-tickets}
 use Rattle.cx_rules.proofs.laws.asking_laws.Goals as goal
 
 pub returns-clause-greets : goal.returns-clause-greets

@@ -40,11 +40,11 @@ use Rattle.cx_login.specs.cx_wire.specs.declared.bodies.Reply.{Reply}
 use Rattle.cx_login.specs.cx_wire.specs.declared.bodies.Reply.TheVariants as given
 use Rattle.cx_login.specs.cx_wire.specs.declared.logins.LoginDone.{LoginDone}
 use Rattle.cx_login.specs.cx_wire.specs.declared.logins.ServerChallenge.{ServerChallenge}
-use Rattle.cx_login.specs.cx_wire.specs.declared.parts.TicketPart.{TicketPart}
+use Rattle.cx_login.specs.cx_wire.specs.declared.tickets.TicketPart.{TicketPart}
 use Rattle.cx_stream.specs.cx_digest.specs.Code.{hmac}
 use Rattle.cx_stream.specs.cx_frame.specs.Frames.{frame_text, total}
 use Rattle.cx_stream.specs.cx_frame.specs.declared.frame.Frame.{Frame}
-use Rattle.cx_rules.specs.Asking.{HearsChallenge, HearsHelloOf, HearsLogin, HearsReply, HearsRightSignature, HearsServerIdent, own_signature, proof_frame}
+use Rattle.cx_rules.specs.MonClientAnswering.{HearsChallenge, HearsHelloOf, HearsLogin, HearsReply, HearsRightSignature, HearsServerIdent, own_signature, proof_frame}
 use Rattle.cx_rules.specs.Carrying.{HandsOn}
 use Rattle.cx_rules.specs.Connector.{AwaitsBanner, AwaitsHello, AwaitsChallenge, AwaitsDone, AwaitsSignature, AwaitsIdent, Open, Login, MonClientArrival, MonClientRow, Stage, client_ident, holding, login_request, on_bad_method, on_banner, on_challenge, on_done, on_hello, on_login_done, on_missing_features, on_opened, on_reply_more, on_signature, proof_made, proves, signs, turned_at, while_challenged, while_identified, while_proved}
 use Rattle.cx_rules.specs.Fronts.{Next, banner_next, plain_next, secure_next}
@@ -52,7 +52,7 @@ use Rattle.cx_rules.specs.Greetings.{own_hello}
 use Rattle.cx_rules.specs.Holdings.{MonClient, held_login}
 use Rattle.cx_rules.specs.Links.{Link}
 use Rattle.cx_rules.specs.Messages.{Message, body_as, message_in, on_upkeep_or}
-use Rattle.cx_rules.specs.Payloads.{due, payload, whole}
+use Rattle.cx_rules.specs.Payloads.{control, due, payload, whole}
 use Rattle.cx_rules.specs.Requests.{Requests, asks_rotating, behind_reply, behind_request, body_taken, fetched_entry, message_taken, no_requests, on_open, on_reply, on_server_ident, opens_to, reply_taken, request_message, rotating_taken, sealed_request, sends_request, takes, tickets_taken, unless_unsealed, waiting_taken, with_tickets, with_view}
 use Rattle.cx_rules.specs.Rows.{Handles, at, goes_on, plain_sent, refuses, secure_sent, turned_by, with_opened}
 use Rattle.cx_rules.specs.Secured.{Keys, SealedFrame, Secured, connector_keys, is_signed, plain_frame, sealed_under, secure_frame, signature, signature_found, signing, under}
@@ -90,7 +90,7 @@ module _ (a : MonClientArrival) where
     link = refl;
     sends = refl;
     save = refl;
-    entries = refl;
+    entered = refl;
   }
 
   -- HELLO: AUTH_REQUEST is sent
@@ -106,7 +106,7 @@ module _ (a : MonClientArrival) where
         link = refl;
         sends = refl;
         save = refl;
-        entries = refl;
+        entered = refl;
       }
 
   -- a challenge: the proof is sent
@@ -127,7 +127,7 @@ module _ (a : MonClientArrival) where
         link = refl;
         sends = refl;
         save = refl;
-        entries = refl;
+        entered = refl;
       }
 
   -- AUTH_DONE: AUTH_SIGNATURE is sent
@@ -144,6 +144,7 @@ module _ (a : MonClientArrival) where
       let opened : List SealEntry = (login_in a.own.secret h.login).seals in
       let sealed : SealedFrame = own_signature h.logged_in received in
       let session : List ℕ = h.logged_in.auth.session in
+      let own : Frame = control 7 auth_signature_layout.form (record { signature = hmac session received }) in
       let signed : SealedFrame = record sealed { seals = signature session received ∷ sealed.seals } in
       let by_tag : ℕ → MonClientRow = λ n.
       if n == 3 then on_bad_method b (payload bad_method_layout.form f)
@@ -156,12 +157,12 @@ module _ (a : MonClientArrival) where
             ∙ ap (λ (r : MonClientRow). Handles r)
             (ap by_tag h.tag ∙ ap (on_done b) h.payload ∙ ap by_mode h.mode ∙ ap (on_login_done b h.done.gid) h.read ∙ ap (on_opened b h.done.gid opened) h.opens
             ∙ ap (λ (r : Result SealedFrame BytesFault). signs b login opened (signing session received r))
-            (secure-sent (connector_keys h.logged_in.secret) _ (omega (arith, few-parts _, h.counters)) (omega (arith, length-code session received))));
+            (secure-sent (connector_keys h.logged_in.secret) own (omega (arith, few-parts own, h.counters)) (omega (arith, length-code session received))));
         own_is = refl;
         link = refl;
         sends = refl;
         save = refl;
-        entries = refl;
+        entered = refl;
       }
 
   -- the monitor's signature: the login is held, and CLIENT_IDENT is sent
@@ -188,7 +189,7 @@ module _ (a : MonClientArrival) where
         link = refl;
         sends = refl;
         save = refl;
-        entries = refl;
+        entered = refl;
       }
 
   -- ---- SERVER_IDENT
@@ -219,7 +220,7 @@ module _ (a : MonClientArrival) where
       link = refl;
       sends = refl;
       save = refl;
-      entries = refl;
+      entered = refl;
     }
 
     abbrev request : Frame
@@ -241,7 +242,7 @@ module _ (a : MonClientArrival) where
           link = refl;
           sends = refl;
           save = refl;
-          entries = refl;
+          entered = refl;
         }
 
   -- ---- a reply
@@ -273,35 +274,35 @@ module _ (a : MonClientArrival) where
   -- tickets that all open are held, and the request waits no more
   pub takes-tickets : (s : Secured) (r : Requests) (parts : List TicketPart) (held : List Held) (h : HearsReply a s r Tickets (given.Tickets parts)) → (told_each r.session parts).value ≡ Some held
       → HandsOn (with_tickets a.own held) h.reads.behind (Open (under s h.reads.keys) (behind_reply r)) [] [] (turned_at a (Open s r))
-  takes-tickets s r parts held h open =
+  takes-tickets s r parts held h opens =
       let b : MonClientArrival = at a h.reads.behind in
       let t : Secured = under s h.reads.keys in
       record {
         row = with_opened h.reads.opened (takes Open b t r (Holds held (told_each r.session parts).seals));
         handles = reply-read s r Tickets (given.Tickets parts) h
-            ∙ ap (λ (o : Option (List Held)). Handles (with_opened h.reads.opened (takes Open b t r (tickets_taken (told_each r.session parts).seals o)))) open;
+            ∙ ap (λ (o : Option (List Held)). Handles (with_opened h.reads.opened (takes Open b t r (tickets_taken (told_each r.session parts).seals o)))) opens;
         own_is = refl;
         link = refl;
         sends = refl;
         save = refl;
-        entries = refl;
+        entered = refl;
       }
 
   -- generations that open become the view, and that they were fetched is entered
   pub takes-generations : (s : Secured) (r : Requests) (reading : ℕ) (blob : List ℕ) (told : RotatingReply) (h : HearsReply a s r (Rotating reading) (given.Rotating blob))
       → (unlocked rotating_reply_layout.form Principal a.own.secret blob).value ≡ Some told
       → HandsOn (with_view a.own reading told.generations) h.reads.behind (Open (under s h.reads.keys) (behind_reply r)) [] (fetched_entry a.own.name reading told.generations ∷ []) (turned_at a (Open s r))
-  takes-generations s r reading blob told h open =
+  takes-generations s r reading blob told h opens =
       let b : MonClientArrival = at a h.reads.behind in
       let t : Secured = under s h.reads.keys in
       let opened : List SealEntry = (unlocked rotating_reply_layout.form Principal a.own.secret blob).seals in
       record {
         row = with_opened h.reads.opened (takes Open b t r (Views reading told.generations opened));
         handles = reply-read s r (Rotating reading) (given.Rotating blob) h
-            ∙ ap (λ (o : Option RotatingReply). Handles (with_opened h.reads.opened (takes Open b t r (rotating_taken reading opened o)))) open;
+            ∙ ap (λ (o : Option RotatingReply). Handles (with_opened h.reads.opened (takes Open b t r (rotating_taken reading opened o)))) opens;
         own_is = refl;
         link = refl;
         sends = refl;
         save = refl;
-        entries = refl;
+        entered = refl;
       }

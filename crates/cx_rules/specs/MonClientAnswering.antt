@@ -25,7 +25,7 @@ use Rattle.cx_login.specs.cx_wire.specs.declared.bodies.Reply.{Reply}
 use Rattle.cx_login.specs.cx_wire.specs.declared.bodies.Reply.TheVariants as given
 use Rattle.cx_login.specs.cx_wire.specs.declared.logins.LoginDone.{LoginDone}
 use Rattle.cx_login.specs.cx_wire.specs.declared.logins.ServerChallenge.{ServerChallenge}
-use Rattle.cx_login.specs.cx_wire.specs.declared.parts.TicketPart.{TicketPart}
+use Rattle.cx_login.specs.cx_wire.specs.declared.tickets.TicketPart.{TicketPart}
 use Rattle.cx_stream.specs.cx_digest.specs.Code.{hmac}
 use Rattle.cx_stream.specs.cx_frame.specs.Frames.{total}
 use Rattle.cx_stream.specs.cx_frame.specs.declared.frame.Frame.{Frame}
