@@ -33,10 +33,11 @@ to-monitor c reading draw link behind before stage own bytes entries found same 
     let a = arrival (client.me c.own) c.own (of_kind ToMonitor (record link { stage = before })) reading draw in
     let is : whole_client_rule c (Turn link.number) reading draw ≡ carried_out c link.number true row =
     ap (client.turn c reading draw) found ∙ ap (λ (t : Turned MonClient connector.Stage). turns c a (turn_of_kind (with_mon_client c.own) ToMonitor t)) h.handles in
-    subst P (sym is)
-    (carried-on c link.number (of_kind ToMonitor behind) (ToMonitor stage) bytes entries row same
-    (ap (λ (l : Option (Link connector.Stage)). option_map (of_kind ToMonitor) l) h.link) h.sends h.entered,
-    ap (with_mon_client c.own) h.own_is)
+    subst P (sym is) (
+      carried-on c link.number (of_kind ToMonitor behind) (ToMonitor stage) bytes entries row same
+          (ap (λ (l : Option (Link connector.Stage)). option_map (of_kind ToMonitor) l) h.link) h.sends h.entered,
+      ap (with_mon_client c.own) h.own_is,
+    )
 
 -- ---- a client's link to a daemon
 
@@ -53,10 +54,11 @@ to-daemon c reading draw link behind before stage own bytes entries found same h
     let a = arrival (client.me c.own) c.own (of_kind ToDaemon (record link { stage = before })) reading draw in
     let is : whole_client_rule c (Turn link.number) reading draw ≡ carried_out c link.number true row =
     ap (client.turn c reading draw) found ∙ ap (λ (t : Turned Caller CallStage). turns c a (turn_of_kind (with_caller name c.own) ToDaemon t)) h.handles in
-    subst P (sym is)
-    (carried-on c link.number (of_kind ToDaemon behind) (ToDaemon stage) bytes entries row same
-    (ap (λ (l : Option (Link CallStage)). option_map (of_kind ToDaemon) l) h.link) h.sends h.entered,
-    ap (with_caller name c.own) h.own_is)
+    subst P (sym is) (
+      carried-on c link.number (of_kind ToDaemon behind) (ToDaemon stage) bytes entries row same
+          (ap (λ (l : Option (Link CallStage)). option_map (of_kind ToDaemon) l) h.link) h.sends h.entered,
+      ap (with_caller name c.own) h.own_is,
+    )
 
 -- ---- a daemon's link to the monitor
 
@@ -83,7 +85,8 @@ as-connector handlers d reading draw link behind before stage own bytes entries 
     daemon.state_behind (Turn link.number)
     (asks.with_book daemon.book_reply daemon.book_after d.book (asks.Finished (turns node a (turn_of_kind (daemon.with_mon_client node.own) AsConnector t)))) in
     let is : daemon_step handlers d (Turn link.number) reading draw ≡ last = ap by_link found ∙ ap by_turned h.handles in
-    subst P (sym is)
-    (carried-on node link.number (of_kind AsConnector behind) (AsConnector stage) bytes entries row same
-    (ap (λ (l : Option (Link connector.Stage)). option_map (of_kind AsConnector) l) h.link) h.sends h.entered,
-    ap (λ (m : MonClient). record { node = record (carried_out node link.number true row).state { own = daemon.with_mon_client node.own m }; book = d.book }) h.own_is)
+    subst P (sym is) (
+      carried-on node link.number (of_kind AsConnector behind) (AsConnector stage) bytes entries row same
+          (ap (λ (l : Option (Link connector.Stage)). option_map (of_kind AsConnector) l) h.link) h.sends h.entered,
+      ap (λ (m : MonClient). record { node = record (carried_out node link.number true row).state { own = daemon.with_mon_client node.own m }; book = d.book }) h.own_is,
+    )

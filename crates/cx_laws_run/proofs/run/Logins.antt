@@ -182,7 +182,7 @@ logs-in setup older p hears own each t has unleaked = by_heard (hears t has)
     by_heard (inl (number, proves)) = inl (number, (proves, own.0 number t.entity proves unleaked))
     by_heard (inr (renewal, heard)) = inr (renewal, since-own setup renewal.number t.entity older unleaked each renewal.login, own.1 t renewal heard unleaked)
 
-each-logs-in : (setup : Setup) (past : List Point) → EachPoint (Hears setup) past → EachPoint (Owned setup) past → LogIn setup past
+each-logs-in : (setup : Setup) (past : List Point) → EachPoint (Hears setup) past → EachPoint (Owned setup) past → EachPoint (LogsIn setup) past
 each-logs-in setup [] hears own = tt
 each-logs-in setup (p ∷ older) hears own = (logs-in setup older p hears.0 own.0 own.1, each-logs-in setup older hears.1 own.1)
 
@@ -221,9 +221,9 @@ module _ (number other challenge : ℕ) (offered offered2 : Offered) (same : off
     where
       by_place : (past : List Point) → Before (λ before q. UncheckedSince other (λ _ at. Offers other offered2 at) before × ChecksOn other q) past
           → (Before (λ (_ : List Point) (q : Point). LogsDraw (draw.Challenge challenge) (seals_at q)) past → ⊥) → ⊥
-      by_place [] none no = none
-      by_place (r ∷ past) (inl (drew, _)) no = no (inr (drew-before other offered2 same2 past drew))
-      by_place (r ∷ past) (inr h) no = by_place past h (λ earlier. no (inr earlier))
+      by_place [] none never = none
+      by_place (r ∷ past) (inl (drew, _)) never = never (inr (drew-before other offered2 same2 past drew))
+      by_place (r ∷ past) (inr h) never = by_place past h (λ earlier. never (inr earlier))
   none-between setup whose (q ∷ older) fresh (inr a) (inr before) = none-between setup whose older fresh.1 a.2 before
 
 -- each challenge that is drawn is new, so each proof lets in once
@@ -245,10 +245,10 @@ proves-once setup older p fresh number name proves before = by_place older befor
         no_later : (past : List Point)
             → Before (λ before q. (other : ℕ) × (whose : Name) × (earlier : Proves setup other whose before q) × (earlier.offered.offer.challenge ≡ proves.offered.offer.challenge)) past
             → (Before (λ (_ : List Point) (q : Point). LogsDraw (draw.Challenge proves.offered.offer.challenge) (seals_at q)) past → ⊥) → ⊥
-        no_later [] none no = none
-        no_later (r ∷ past) (inl (other, whose, earlier, same)) no =
-            no (inr (drew-before number other proves.offered.offer.challenge proves.offered earlier.offered refl same other earlier.offered same past earlier.drew))
-        no_later (r ∷ past) (inr h) no = no_later past h (λ earlier. no (inr earlier))
+        no_later [] none never = none
+        no_later (r ∷ past) (inl (other, whose, earlier, same)) never =
+            never (inr (drew-before number other proves.offered.offer.challenge proves.offered earlier.offered refl same other earlier.offered same past earlier.drew))
+        no_later (r ∷ past) (inr h) never = no_later past h (λ earlier. never (inr earlier))
     by_place (q ∷ past) (inr h) fresh (inr drew) = by_place past h fresh.1 drew.2
 
 each-once : (setup : Setup) (past : List Point) → EachPoint DrawsNew past → EachPoint (ProvesOnce setup) past
