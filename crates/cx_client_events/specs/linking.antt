@@ -1,3 +1,4 @@
+pub mod Ahead
 pub mod Kinds
 pub mod Scans
 pub mod Waiting

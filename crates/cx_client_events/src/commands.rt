@@ -1,6 +1,11 @@
 //! What a client does at a command: Login, Renew and Connect.
 
-ghost use Rattle.std.specs.Prelude.{◌≡◌, ◌<◌, ◌-◌, ◌^◌, [], ◌∷◌, None, IfOk, OnErr};
+ghost use Rattle.std.specs.Prelude.{◌≡◌, ◌<◌, ◌-◌, ◌^◌, [], ◌∷◌, None, Some, false, IfOk, IfSome, OnErr};
+ghost use Rattle.std.specs.Option.{option_map};
+ghost use Rattle.cx_node.specs.Tables.{behind, with_number};
+ghost use Rattle.cx_node.specs.steps.Turns.{IsCarried};
+ghost use Rattle.cx_client_events.specs.linking.Ahead.{IsStanding, link_ahead, row_on};
+ghost use Rattle.cx_client_events.specs.linking.Kinds.{ClientLink};
 ghost use Rattle.cx_node.specs.cx_rules.specs.Rows as rows;
 ghost use Rattle.cx_client_events.specs.cx_rules_session.specs.ClientRule as rule;
 ghost use Rattle.cx_client_events.specs.cx_rules_session.specs.ClientRule.{me};
@@ -10,11 +15,11 @@ ghost use Rattle.cx_node.specs.steps.Steps.{node_of};
 ghost use Rattle.cx_client_events.specs.Machine.{AreHeld, IsStep};
 
 use crate::own::Own;
-use crate::{Called, Callee, Link, calls, first_open, numbers_to_monitor, shut_all};
+use crate::{Called, Callee, Link, OpenAhead, calls, first_open, numbers_to_monitor, shut_all};
 use cx_base::{Duplicate, EntityName, Items, Reading};
 use cx_dice::Draw;
 use cx_journal::Reason;
-use cx_node::{Links, Moment, Numbered, enters, refused_entry, stands};
+use cx_node::{Carried, Links, Moment, Numbered, Row, carried_out, enters, refused_entry};
 use cx_steps::{Effects, Peer};
 use std::alloc::{AllocError, Global};
 
@@ -45,8 +50,7 @@ pub fn logs_in(
     Ok(out)
 }
 
-/// Tickets are asked for on the first link to the monitor that is open. Where memory is wanting, the link is as it was: it is given up last, for the one
-/// that goes on.
+/// Tickets are asked for on the first link to the monitor that is open. Where memory is wanting, the link is as it was: the request is sealed ahead on it, and it goes on last.
 pub fn renews(
     alloc: Global,
     own: &Own,
@@ -71,8 +75,44 @@ pub fn renews(
         reading: now,
         draw,
     };
-    let asked = own.asks_tickets(alloc, &at, link, services);
-    stands(alloc, links, number, asked)
+    let asked = own.asks_tickets(alloc, &at, link, services)?;
+    goes_ahead(alloc, links, number, asked)
+}
+
+// A row is carried out on the link of this number, which then goes on behind the request that was sealed ahead on it, or is shut. Where memory is wanting all is as before.
+fn goes_ahead(
+    alloc: Global,
+    links: &mut Links<Link>,
+    number: u32,
+    row: Row<OpenAhead>,
+) -> Result<Effects, AllocError>
+    requires room { links.old.room ≡ None }
+    requires ahead { IfSome row.link (IsStanding number links.old.links) }
+    ensures carried { (link : ClientLink) → with_number (λ l. l.number) number links.old.links ≡ Some link
+        → IfOk result (IsCarried (λ l. l.number) number false (row_on link row) links.old.links links.new.links) }
+    ensures err { OnErr result (links.new ≡ links.old) }
+    ensures room { links.new.room ≡ None }
+{
+    let Carried { link, out } = carried_out(alloc, number, false, row)?;
+    goes_on(links, number, link);
+    Ok(out)
+}
+
+fn goes_on(links: &mut Links<Link>, number: u32, ahead: Option<OpenAhead>)
+    requires room { links.old.room ≡ None }
+    requires ahead { IfSome ahead (IsStanding number links.old.links) }
+    ensures links { (link : ClientLink) → with_number (λ l. l.number) number links.old.links ≡ Some link
+        → links.new.links ≡ behind (λ l. l.number) number (option_map (link_ahead link) ahead) links.old.links }
+    ensures room { links.new.room ≡ None }
+{
+    let Some(ahead) = ahead else {
+        links.remove(number);
+        return;
+    };
+    match links.take(number) {
+        Some(link) => links.settle(number, Some(link.go_on(ahead))),
+        None => unreachable!(),
+    }
 }
 
 // ---- Connect

@@ -23,7 +23,7 @@ pub use cx_client_connect::{
 };
 pub use cx_holdings::{MonClient, OfferedModes};
 pub use cx_monclient::{
-    Link as MonitorLink, asks_tickets, greeting as monitor_greeting, named,
+    Link as MonitorLink, OpenAhead, asks_tickets, greeting as monitor_greeting, named,
     turned as monitor_turned,
 };
 pub use events::{comes, goes, opens, opens_none, restarts};

@@ -43,6 +43,20 @@ impl Link {
     ghost use Rattle.cx_node.specs.cx_rules_session.specs.ClientRule.{ToMonitor, ToDaemon, asking_open, call_open, is_at_rest, is_open, is_to, is_to_monitor};
     ghost use Rattle.cx_node.specs.cx_rules_session.specs.Kinds.{of_kind};
     ghost use Rattle.cx_node.specs.cx_rules_session.specs.Presenter as call;
+    ghost use Rattle.cx_client_events.specs.linking.Ahead.{IsAheadAt, link_ahead};
+
+    /// A link to the monitor goes on behind a request that was sealed ahead on it. It wants no memory.
+    pub fn go_on(self, ahead: connector::OpenAhead) -> Link
+        requires { IsAheadAt self.stage ahead }
+        ensures { result ≡ link_ahead self ahead }
+    {
+        match self.kind {
+            Kind::Monitor(link) => Link {
+                kind: Kind::Monitor(link.go_on(ahead)),
+            },
+            Kind::Daemon(_) => unreachable!(),
+        }
+    }
 
     /// Whether it is to the monitor.
     pub fn is_to_monitor(&self) -> bool

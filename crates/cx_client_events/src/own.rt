@@ -1,6 +1,6 @@
 //! What a client has of its own.
 
-ghost use Rattle.std.specs.Prelude.{◌≡◌, ◌<◌, ◌-◌, ◌^◌, [], true, Some, IfOk, IfNone, OnOk, OnErr, find};
+ghost use Rattle.std.specs.Prelude.{◌≡◌, ◌<◌, ◌-◌, ◌^◌, [], true, Some, IfOk, IfNone, IfSome, OnOk, OnErr, find};
 ghost use Rattle.std.specs.Option.{option_copied};
 ghost use Rattle.cx_node.specs.Made.{as_row};
 ghost use Rattle.cx_client_events.specs.cx_client_connect.specs.presenting.Rows as call_rows;
@@ -13,12 +13,15 @@ ghost use Rattle.cx_client_events.specs.cx_rules_session.specs.Sessions.{session
 ghost use Rattle.cx_client_events.specs.cx_client_connect.specs.session.Table.{having_pushed, in_session};
 ghost use Rattle.cx_node.specs.steps.Making.{row_due};
 ghost use Rattle.cx_holdings.specs.cx_wire.specs.Operations.{IsWritable};
+ghost use Rattle.cx_client_events.specs.cx_rules_session.specs.ClientRule.{ToMonitor};
+ghost use Rattle.cx_client_events.specs.cx_rules_session.specs.Kinds.{of_kind};
+ghost use Rattle.cx_client_events.specs.linking.Ahead.{IsAheadAt, row_on};
 ghost use Rattle.cx_client_events.specs.Machine.{banner_sent, called_with, tickets_asked};
 ghost use Rattle.cx_client_events.specs.Turns.{with_change};
 
 use crate::{
-    CallChange, Called, Callee, Change, Dial, Dials, HeldSession, Link, MonitorLink, Purpose,
-    Sessions, asks_tickets, call_greeting, held_gid, monitor_greeting, named, of_daemon,
+    CallChange, Called, Callee, Change, Dial, Dials, HeldSession, Link, MonitorLink, OpenAhead,
+    Purpose, Sessions, asks_tickets, call_greeting, held_gid, monitor_greeting, named, of_daemon,
     of_monitor, ticket_for,
 };
 use cx_base::{Duplicate, EntityName, NodeName, Operation};
@@ -239,20 +242,21 @@ impl Own {
         }
     }
 
-    /// The row by which tickets are asked for on a link that is open.
+    /// The row by which tickets are asked for on a link that is open: by what that goes on by behind the request, which is sealed ahead on it.
     pub fn asks_tickets(
         &self,
         alloc: Global,
         at: &Moment<'_>,
         link: &MonitorLink,
         services: u32,
-    ) -> Result<Row<Link>, AllocError>
+    ) -> Result<Row<OpenAhead>, AllocError>
         requires number { link.now.number ≡ at.now.number }
         requires open { is_open link.now.stage ≡ true }
-        ensures { (s : Secured) (requests : Requests) → kept_open link.now.stage ≡ Some (s, requests) → IfOk result (λ row. as_row self.now.client row
-            ≡ row_due abridged_client_link (tickets_asked self.now.client at.now.reading at.now.draw.now.bytes services link.now s requests)) }
+        ensures { (s : Secured) (requests : Requests) → kept_open link.now.stage ≡ Some (s, requests)
+            → IfOk result (λ row. (as_row self.now.client (row_on (of_kind ToMonitor link.now) row)
+            ≡ row_due abridged_client_link (tickets_asked self.now.client at.now.reading at.now.draw.now.bytes services link.now s requests))
+            × IfSome row.link (IsAheadAt (ToMonitor link.now.stage))) }
     {
-        let row = asks_tickets(alloc, &self.mon_client, at, link, services)?;
-        Ok(of_monitor(row))
+        asks_tickets(alloc, &self.mon_client, at, link, services)
     }
 }

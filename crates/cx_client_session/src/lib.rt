@@ -19,4 +19,4 @@ pub use cx_client_connect::{
     challenge_turn, done_turn, end_in, handles, hello_turn,
 };
 pub use operations_turns::turned;
-pub use sending::sends;
+pub use sending::{go_on, sends};

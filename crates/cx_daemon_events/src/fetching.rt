@@ -1,6 +1,11 @@
 //! The generations of a daemon's own type, asked for on its link to the monitor.
 
-ghost use Rattle.std.specs.Prelude.{◌≡◌, [], ◌∷◌, None, true, IfOk, OnErr};
+ghost use Rattle.std.specs.Prelude.{◌≡◌, [], ◌∷◌, None, Some, true, false, IfOk, IfSome, OnErr};
+ghost use Rattle.std.specs.Option.{option_map};
+ghost use Rattle.cx_node.specs.Tables.{behind, with_number};
+ghost use Rattle.cx_node.specs.steps.Turns.{IsCarried};
+ghost use Rattle.cx_daemon_events.specs.Ahead.{IsStanding, link_ahead, row_on};
+ghost use Rattle.cx_daemon_events.specs.Kinds.{DaemonLink};
 ghost use Rattle.cx_node.specs.cx_rules.specs.Requests.{first_open};
 ghost use Rattle.cx_verifying.specs.cx_rules_session.specs.DaemonRule as rule;
 ghost use Rattle.cx_verifying.specs.cx_rules_session.specs.DaemonRule.{asking_open};
@@ -14,7 +19,8 @@ use crate::own::Own;
 use crate::scans::{first_open, is_fetching};
 use cx_base::{Items, Reading};
 use cx_dice::Draw;
-use cx_node::{Links, Moment, Numbered, stands};
+use cx_monclient::OpenAhead;
+use cx_node::{Carried, Links, Moment, Numbered, Row, carried_out};
 use cx_steps::{Effects, Peer};
 use std::alloc::{AllocError, Global};
 
@@ -72,7 +78,7 @@ pub fn is_busy(own: &Own, links: &Links<Link>) -> bool
 }
 
 // The generations are asked for on the link to the monitor that is open; where none is, one is opened. Where memory is wanting, the link is as it was:
-// it is given up last, for the one that goes on.
+// the request is sealed ahead on it, and it goes on last.
 fn fetches_on(
     alloc: Global,
     own: &mut Own,
@@ -97,8 +103,46 @@ fn fetches_on(
         reading: now,
         draw,
     };
-    let asked = own.asks_generations(alloc, &at, link);
-    stands(alloc, links, number, asked)
+    let asked = own.asks_generations(alloc, &at, link)?;
+    goes_ahead(alloc, links, number, asked)
+}
+
+// A row is carried out on the link of this number, which then goes on behind the request that was sealed ahead on it, or is shut. Where memory is
+// wanting, all is as before.
+fn goes_ahead(
+    alloc: Global,
+    links: &mut Links<Link>,
+    number: u32,
+    row: Row<OpenAhead>,
+) -> Result<Effects, AllocError>
+    requires room { links.old.room ≡ None }
+    requires ahead { IfSome row.link (IsStanding number links.old.links) }
+    ensures carried { (link : DaemonLink) → with_number (λ l. l.number) number links.old.links ≡ Some link
+        → IfOk result (IsCarried (λ l. l.number) number false (row_on link row) links.old.links links.new.links) }
+    ensures err { OnErr result (links.new ≡ links.old) }
+    ensures room { links.new.room ≡ None }
+{
+    let Carried { link, out } = carried_out(alloc, number, false, row)?;
+    goes_on(links, number, link);
+    Ok(out)
+}
+
+// The link of this number goes on behind what was sealed ahead on it, or is shut. It wants no memory.
+fn goes_on(links: &mut Links<Link>, number: u32, ahead: Option<OpenAhead>)
+    requires room { links.old.room ≡ None }
+    requires ahead { IfSome ahead (IsStanding number links.old.links) }
+    ensures links { (link : DaemonLink) → with_number (λ l. l.number) number links.old.links ≡ Some link
+        → links.new.links ≡ behind (λ l. l.number) number (option_map (link_ahead link) ahead) links.old.links }
+    ensures room { links.new.room ≡ None }
+{
+    let Some(ahead) = ahead else {
+        links.remove(number);
+        return;
+    };
+    match links.take(number) {
+        Some(link) => links.settle(number, Some(link.go_on(ahead))),
+        None => unreachable!(),
+    }
 }
 
 // A link to the monitor is opened.

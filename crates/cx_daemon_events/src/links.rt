@@ -41,7 +41,21 @@ impl Link {
     ghost use Rattle.cx_node.specs.cx_rules.specs.Connector.{is_open};
     ghost use Rattle.cx_verifying.specs.cx_rules_session.specs.DaemonRule.{AsConnector, asking_open, is_for_fetch, is_in};
     ghost use Rattle.cx_verifying.specs.cx_rules_session.specs.Kinds.{of_kind};
+    ghost use Rattle.cx_daemon_events.specs.Ahead.{IsAheadAt, link_ahead};
     ghost use Rattle.cx_daemon_events.specs.Regards.{regard_at};
+
+    /// Its own link to the monitor goes on behind a request that was sealed ahead on it. It wants no memory.
+    pub fn go_on(self, ahead: connector::OpenAhead) -> Link
+        requires { IsAheadAt self.stage ahead }
+        ensures { result ≡ link_ahead self ahead }
+    {
+        match self.kind {
+            Kind::Own(link) => Link {
+                kind: Kind::Own(link.go_on(ahead)),
+            },
+            Kind::Incoming(_) => unreachable!(),
+        }
+    }
 
     /// Whether a fetch is under way on it.
     pub fn is_for_fetch(&self) -> bool

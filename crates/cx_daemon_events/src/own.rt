@@ -1,12 +1,15 @@
 //! What a daemon has of its own.
 
-ghost use Rattle.std.specs.Prelude.{◌≡◌, true, false, Some, IfOk};
+ghost use Rattle.std.specs.Prelude.{◌≡◌, true, false, Some, IfOk, IfSome};
 ghost use Rattle.cx_node.specs.Made.{as_row};
 ghost use Rattle.cx_node.specs.cx_rules.specs.Connector.{is_open, kept_open};
 ghost use Rattle.cx_node.specs.cx_rules.specs.Requests.{Requests, is_outdated};
 ghost use Rattle.cx_node.specs.cx_rules.specs.Secured.{Secured};
+ghost use Rattle.cx_verifying.specs.cx_rules_session.specs.DaemonRule.{AsConnector};
 ghost use Rattle.cx_verifying.specs.cx_rules_session.specs.Forgets.{abridged_daemon_link};
+ghost use Rattle.cx_verifying.specs.cx_rules_session.specs.Kinds.{of_kind};
 ghost use Rattle.cx_node.specs.steps.Making.{row_due};
+ghost use Rattle.cx_daemon_events.specs.Ahead.{IsAheadAt, row_on};
 ghost use Rattle.cx_daemon_events.specs.Machine.{banner_sent, generations_asked, incoming_greeted};
 
 use crate::kinds::{of_incoming, of_own};
@@ -134,19 +137,20 @@ impl Own {
         Ok(of_incoming(row))
     }
 
-    /// The row by which generations are asked for on a link that is open.
+    /// The row by which generations are asked for on a link that is open: by what that goes on by behind the request, which is sealed ahead on it.
     pub fn asks_generations(
         &self,
         alloc: Global,
         at: &Moment<'_>,
         link: &connector::Link,
-    ) -> Result<Row<Link>, AllocError>
+    ) -> Result<Row<connector::OpenAhead>, AllocError>
         requires number { link.now.number ≡ at.now.number }
         requires open { is_open link.now.stage ≡ true }
-        ensures { (s : Secured) (requests : Requests) → kept_open link.now.stage ≡ Some (s, requests) → IfOk result (λ row.
-            as_row self.now row ≡ row_due abridged_daemon_link (generations_asked self.now at.now.reading at.now.draw.now.bytes link.now s requests)) }
+        ensures { (s : Secured) (requests : Requests) → kept_open link.now.stage ≡ Some (s, requests)
+            → IfOk result (λ row. (as_row self.now (row_on (of_kind AsConnector link.now) row)
+            ≡ row_due abridged_daemon_link (generations_asked self.now at.now.reading at.now.draw.now.bytes link.now s requests))
+            × IfSome row.link (IsAheadAt (AsConnector link.now.stage))) }
     {
-        let row = connector::asks_generations(alloc, &self.mon_client, at, link)?;
-        Ok(of_own(row))
+        connector::asks_generations(alloc, &self.mon_client, at, link)
     }
 }

@@ -11,6 +11,7 @@ use Rattle.cx_frame.specs.declared.frame.Segment.{Segment}
 use Rattle.cx_journal.specs.declared.faults.BytesFault.{BytesFault}
 use Rattle.cx_journal.specs.declared.faults.BytesFault.TheVariants.{CounterSpent, TooLong}
 use Rattle.cx_rules.specs.Secured.{Keys, SealedFrame, part_seals, sealed_under, secure_frame}
+use Rattle.cx_rules.specs.cx_secure.specs.Commits.{IsAheadOf, after_commit}
 use Rattle.cx_rules.specs.cx_secure.specs.Contents.{frame_contents, sealed_contents}
 use Rattle.cx_rules.specs.cx_secure.specs.Parts.{nonce_at}
 use Rattle.cx_rules.specs.cx_secure.specs.Plains.{plains, secure_text}
@@ -18,13 +19,14 @@ use Rattle.cx_rules.specs.cx_secure.specs.Sealings.{after_sealed, connection_key
 use Rattle.cx_rules.specs.cx_secure.specs.declared.refusals.SecureRefusal.{SecureRefusal}
 use Rattle.cx_rules.specs.cx_secure.specs.declared.refusals.SecureRefusal.TheVariants as secure
 use Rattle.cx_rules.specs.cx_secure.specs.declared.sealing.Head.{Head}
+use Rattle.cx_rules.specs.cx_secure.specs.declared.sealing.SealedAhead.{SealedAhead}
 use Rattle.cx_rules.specs.cx_secure.specs.declared.sealing.Sealing.{Sealing}
 use Rattle.cx_rules.specs.cx_secure.proofs.PlainLaws.{parts_counted}
 use Rattle.cx_steps.specs.declared.seals.SealEntry.{SealEntry}
 use Rattle.cx_rules.specs.cx_stream.specs.Held.{Held, sealed_head}
 use Rattle.cx_rules.specs.cx_stream.specs.SecureStreams.{ahead}
-use Rattle.cx_link.specs.Sending.{logged_behind, sealed_entry}
-use Rattle.cx_link.specs.Wires.{IsLive, held_keys}
+use Rattle.cx_link.specs.Sending.{behind_ahead, logged_behind, sealed_entry}
+use Rattle.cx_link.specs.Wires.{IsLive, SecureWire, held_keys, secure_wire}
 
 abbrev Sealed : Type 0
 Sealed = Result SealedFrame BytesFault
@@ -122,6 +124,40 @@ sends_frame held new f key bytes contents before seals live free text after told
     ∙ ap (λ b. made b (before ++ sealed.seals) sealed.keys) (sym text)
     ∙ ap (λ e. made bytes e sealed.keys) (sym (log_is held f key contents before seals live.same told_then log))
     ∙ ap (λ (s : Held). made bytes seals (held_keys s)) (sym after)
+
+-- a frame that is sealed ahead
+
+logged_nothing : (r : Sealed) → r ≡ logged_behind [] r
+logged_nothing (Ok sealed) = refl
+logged_nothing (Err why) = refl
+
+abbrev pub committed : Held → SealedAhead → Held
+committed held a = record held { sealing = after_commit held.sealing a }
+
+abbrev counted_out : Held → ℕ → Held
+counted_out held n = record held { sealing = record held.sealing { out = record held.sealing.out { counter = n } } }
+
+pub seals_ahead : (held : Held) (f : Frame) (a : SealedAhead) (key bytes : List ℕ) (contents : List (List ℕ)) (seals : List SealEntry) → IsLive key held
+    → put_refusal held.sealing f ≡ None → IsAheadOf held.sealing f a
+    → bytes ≡ [] ++ secure_text (connection_key held.sealing) held.sealing.out.fixed held.sealing.out.counter f
+    → contents ≡ frame_contents (after_commit held.sealing a).out f → seals ≡ [] ++ map (sealed_entry key) contents
+    → secure_frame (held_keys held) f ≡ Ok (record { bytes = bytes; seals = seals; keys = held_keys (committed held a) })
+seals_ahead held f a key bytes contents seals live free is text told log =
+    logged_nothing (secure_frame (held_keys held) f)
+    ∙ sends_frame held (committed held a) f key bytes contents [] seals live free text (ap (counted_out held) is.next) told log
+
+committed_head : (s : Sealing) (a : SealedAhead) (head : Option Head) → sealed_head (after_commit s a) head ≡ sealed_head s head
+committed_head s a (Some h) = refl
+committed_head s a None = refl
+
+abbrev with_bytes : SecureWire → List ℕ → SecureWire
+with_bytes wire bytes = record wire { ahead = bytes }
+
+-- the link behind it
+pub wire_behind : (held new : Held) (a : SealedAhead) → new ≡ committed held a → secure_wire new ≡ behind_ahead (secure_wire held) a
+wire_behind held new a after =
+    ap secure_wire after
+    ∙ ap (λ b. with_bytes (behind_ahead (secure_wire held) a) (b ++ held.rest)) (committed_head held.sealing a held.head)
 
 pub same_ahead : (held new : Held) (n : ℕ) → new ≡ sealed_stream held n → (ahead new).bytes ≡ (ahead held).bytes
 same_ahead held new n after =

@@ -7,6 +7,9 @@ use Rattle.cx_rules.specs.Acceptor.{Finished}
 use Rattle.cx_rules.specs.Secured.{SealedFrame, Secured}
 use Rattle.cx_steps.specs.declared.seals.SealEntry.{SealEntry}
 use Rattle.cx_steps.specs.declared.seals.SealEntry.TheVariants as entry
+use Rattle.cx_rules.specs.cx_secure.specs.declared.sealing.SealedAhead.{SealedAhead}
+use Rattle.cx_link.specs.Wires.{SecureWire}
+use Rattle.cx_link.specs.declared.links.AheadFrame.{AheadFrame}
 use Rattle.cx_link.specs.declared.links.Finished.{Finished as FinishedLink}
 use Rattle.cx_link.specs.declared.links.SentFrame.{SentFrame}
 use Rattle.cx_link.specs.declared.links.Signing.{Signing}
@@ -36,6 +39,17 @@ Sends ahead (Ok s) expected =
     (expected ≡ Ok (record { bytes = s.bytes; seals = s.seals; keys = s.link.keys })) × (s.link.ahead ≡ ahead)
 Sends ahead (Err (Fault why)) expected = expected ≡ Err why
 Sends ahead (Err OutOfMemory) expected = Unit {0}
+
+-- the link behind a frame that was sealed ahead on it
+abbrev pub behind_ahead : SecureWire → SealedAhead → SecureWire
+behind_ahead link a = record link { keys = record link.keys { out = record link.keys.out { counter = a.next } } }
+
+-- a frame was sealed ahead so, under the counter at which the link stands, unless memory was wanting
+abbrev pub SealsAhead : SecureWire → Result AheadFrame LinkRefusal → Result SealedFrame BytesFault → Type 0
+SealsAhead link (Ok s) expected =
+    (expected ≡ Ok (record { bytes = s.bytes; seals = s.seals; keys = (behind_ahead link s.ahead).keys })) × (s.ahead.from ≡ link.keys.out.counter)
+SealsAhead link (Err (Fault why)) expected = expected ≡ Err why
+SealsAhead link (Err OutOfMemory) expected = Unit {0}
 
 -- with these entries before those of the frame
 abbrev pub logged_behind : List SealEntry → Result SealedFrame BytesFault → Result SealedFrame BytesFault

@@ -12,10 +12,14 @@ mod signing;
 pub mod tag;
 mod turns;
 
-pub use links::{BannerLink, Checked, Finished, PlainLink, SecureLink, SentFrame, Signing};
+pub use links::{
+    AheadFrame, BannerLink, Checked, Finished, PlainLink, SecureLink, SentFrame, Signing,
+};
 pub use refusals::LinkRefusal;
 pub use sending::{own_banner, plain_bytes};
 pub use turns::{BannerTurn, LinkTurn};
+// What crates above name through this one, and so needn't list.
+pub use cx_rules::SealedAhead;
 
 // Each public type may be sent to another thread and shared with one.
 fn is_sendable<T: Send + Sync>() {}
@@ -27,6 +31,7 @@ fn all_are_sendable() {
     is_sendable::<Signing>();
     is_sendable::<Checked>();
     is_sendable::<SentFrame>();
+    is_sendable::<AheadFrame>();
     is_sendable::<Finished>();
     is_sendable::<BannerTurn>();
     is_sendable::<LinkTurn<PlainLink>>();

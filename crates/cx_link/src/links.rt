@@ -2,7 +2,7 @@
 
 use cx_base::{Blob, Items};
 use cx_digest::SigningKey;
-use cx_rules::{Greeting, Plain, Secure};
+use cx_rules::{Greeting, Plain, SealedAhead, Secure};
 use cx_steps::SealEntry;
 use std::marker::Model;
 
@@ -36,8 +36,8 @@ impl Model for PlainLink {
     ghost view = { λ l. plain_wire l.stream l.sent };
 }
 
-/// A link of secure frames. It gives up the bytes that it took and those that it sent. A copy is made to seal a frame before it is certain that it
-/// is sent (`copy`), and one of both is given up then: two that send use a nonce twice.
+/// A link of secure frames. It gives up the bytes that it took and those that it sent. It has no copy, so that no two send under one nonce: a frame
+/// that isn't certain to be sent is sealed ahead, and the link goes on behind it once it is (`seal_ahead`, `commit`).
 #[derive(Drop)]
 pub struct SecureLink {
     /// The key of the connection, under which parts are logged.
@@ -76,6 +76,14 @@ pub struct Checked {
 #[derive(Drop)]
 pub struct SentFrame {
     pub link: SecureLink,
+    pub bytes: Blob,
+    pub seals: Items<SealEntry>,
+}
+
+/// A secure frame as it was sealed ahead: by what its link goes on behind it, its bytes, and what is logged of it.
+#[derive(Drop)]
+pub struct AheadFrame {
+    pub ahead: SealedAhead,
     pub bytes: Blob,
     pub seals: Items<SealEntry>,
 }

@@ -2,19 +2,19 @@
 
 ghost use Rattle.std.specs.Prelude.{◌≡◌, ◌++◌, List, IfOk, OnOk, OnErr, if◌then◌else◌, map, nat_lt};
 ghost use Rattle.cx_journal.specs.declared.faults.BytesFault.TheVariants.{CounterSpent, TooLong};
-ghost use Rattle.cx_link.specs.Sending.{IsControl, Sends, logged_behind, opened_entry, sealed_entry};
+ghost use Rattle.cx_link.specs.Sending.{IsControl, SealsAhead, Sends, behind_ahead, logged_behind, opened_entry, sealed_entry};
 ghost use Rattle.cx_frame.specs.Frames.{IsAnnounceable};
 ghost use Rattle.cx_link.specs.Turning.{SecureTurns};
 ghost use Rattle.cx_link.specs.Wires.{IsLive, held_keys, secure_wire};
 ghost use Rattle.cx_rules.specs.Secured.{secure_frame};
 
-use crate::links::{SecureLink, SentFrame};
+use crate::links::{AheadFrame, SecureLink, SentFrame};
 use crate::refusals::LinkRefusal;
 use crate::turns::LinkTurn;
-use cx_base::{Blob, Duplicate, Items};
+use cx_base::{Blob, Items};
 use cx_frame::Frame;
 use cx_journal::{BytesFault, KeyKind};
-use cx_rules::Secure;
+use cx_rules::{SealedAhead, Secure};
 use cx_steps::{SealEntry, SealMark};
 use std::alloc::{AllocError, Global};
 
@@ -58,17 +58,34 @@ impl SecureLink {
 }
 
 impl SecureLink {
-    /// A copy, by which a frame can be sealed before it is certain that it is sent. Of the two one alone may go on: two that send use a
-    /// nonce twice.
-    pub fn copy(&self, alloc: Global) -> Result<SecureLink, AllocError>
-        ensures { IfOk result (λ copied. copied ≡ self.now) }
+    /// Seals a frame of one to four segments ahead, and changes nothing: `commit` then goes on behind it. Each part of it is logged.
+    pub fn seal_ahead(&self, alloc: Global, frame: &Frame) -> Result<AheadFrame, LinkRefusal>
+        requires { IsAnnounceable frame.now }
+        ensures { SealsAhead self.now result (secure_frame self.now.keys frame.now) }
     {
-        let copied = self.stream.as_ref().copy(alloc)?;
-        let stream = Box::new(alloc, copied)?;
-        Ok(SecureLink {
-            key: self.key,
-            stream,
-        })
+        let stream = self.stream.as_ref();
+        let mut bytes = Blob::new(alloc);
+        match stream.put_ahead(alloc, &mut bytes, frame) {
+            Ok(ahead) => {
+                let contents = stream.ahead_contents(alloc, &ahead, frame)?;
+                let mut seals = Items::new(alloc);
+                log_sealed(alloc, &self.key, contents, &mut seals)?;
+                Ok(AheadFrame {
+                    ahead,
+                    bytes,
+                    seals,
+                })
+            }
+            Err(fault) => Err(LinkRefusal::from(fault)),
+        }
+    }
+
+    /// Goes on behind a frame that was sealed ahead, where no other was sent since. It wants no memory.
+    pub fn commit(&mut self, ahead: SealedAhead)
+        requires { ahead.from ≡ self.old.keys.out.counter }
+        ensures { self.new ≡ behind_ahead self.old ahead }
+    {
+        self.stream.commit(ahead);
     }
 
     /// Seals a control frame. Each part of it is logged: its nonce and its plain bytes.

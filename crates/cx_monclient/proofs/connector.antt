@@ -1,4 +1,5 @@
 pub mod Behind
 pub mod Choices
+pub mod Found
 pub mod Logged
 pub mod Stages

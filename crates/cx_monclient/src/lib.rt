@@ -22,7 +22,7 @@ pub use connector_asking::{asks_generations, asks_tickets};
 pub use cx_rules::{Taken, Waiting, Want};
 pub use greetings::greeting;
 pub use kept::Requests;
-pub use links::{Link, Stage};
+pub use links::{Link, OpenAhead, Stage};
 pub use making::named;
 pub use requests_asking::{Asked, ask_rotating, ask_tickets};
 pub use rows::{BoxedChange, Change};
@@ -35,6 +35,7 @@ fn is_sendable<T: Send + Sync>() {}
 fn requests_types_are_sendable() {
     is_sendable::<Requests>();
     is_sendable::<Asked>();
+    is_sendable::<OpenAhead>();
 }
 
 fn connector_types_are_sendable() {

@@ -2,12 +2,12 @@
 
 ghost use Rattle.std.specs.Prelude.{ℕ, ◌≡◌, OnOk};
 ghost use Rattle.cx_node.specs.cx_rules.specs.Connector.{is_open, is_quiet};
-ghost use Rattle.cx_monclient.specs.connector.Stages.{is_fetching, link_held};
+ghost use Rattle.cx_monclient.specs.connector.Stages.{IsAheadAt, is_fetching, link_held, stage_ahead};
 ghost use Rattle.cx_node.specs.steps.Stages.{with_more};
 
 use crate::Requests;
 use cx_holdings::Login;
-use cx_link::{BannerLink, PlainLink, SecureLink, Signing};
+use cx_link::{BannerLink, PlainLink, SealedAhead, SecureLink, Signing};
 use cx_node::{Feeds, Numbered};
 use std::alloc::{AllocError, Global};
 use std::marker::Model;
@@ -72,6 +72,25 @@ impl Stage {
         }
     }
 
+    // Goes on behind a request that was sealed ahead on this very link, which is open.
+    fn go_on(&mut self, ahead: OpenAhead)
+        requires { IsAheadAt self.old ahead }
+        ensures { self.new ≡ stage_ahead self.old ahead }
+    {
+        match self {
+            Stage::Open(link, requests) => {
+                link.commit(ahead.link);
+                *requests = ahead.requests;
+            }
+            Stage::AwaitsBanner(_, _) => unreachable!(),
+            Stage::AwaitsHello(_, _) => unreachable!(),
+            Stage::AwaitsChallenge(_, _) => unreachable!(),
+            Stage::AwaitsDone(_) => unreachable!(),
+            Stage::AwaitsSignature(_, _) => unreachable!(),
+            Stage::AwaitsIdent(_, _) => unreachable!(),
+        }
+    }
+
     // Puts bytes behind those that came on the link.
     fn feed(&mut self, alloc: Global, bytes: &[u8]) -> Result<(), AllocError>
         ensures { (number : ℕ) → OnOk result (link_held number self.new ≡ with_more bytes.now (link_held number self.old)) }
@@ -86,6 +105,13 @@ impl Stage {
             Stage::Open(link, _) => link.feed(alloc, bytes),
         }
     }
+}
+
+/// What an open link goes on by behind a request that was sealed ahead on it: the counter behind that, and its requests as they are then.
+#[derive(Drop)]
+pub struct OpenAhead {
+    pub link: SealedAhead,
+    pub requests: Requests,
 }
 
 /// A live link to the monitor. Its stage is boxed: a link goes by value from call to call, and a stage has all that came on it.
@@ -118,7 +144,7 @@ impl Numbered for Link {
 impl Link {
     ghost use Rattle.std.specs.Prelude.{◌≡◌, IfOk};
     ghost use Rattle.cx_node.specs.cx_rules.specs.Connector.{is_open, is_quiet};
-    ghost use Rattle.cx_monclient.specs.connector.Stages.{is_fetching, link_held};
+    ghost use Rattle.cx_monclient.specs.connector.Stages.{IsAheadOn, behind_asked, is_fetching, link_held};
 
     // The link of this number, in a stage. Where memory is wanting it is given up.
     pub(crate) fn new(alloc: Global, number: u32, stage: Stage) -> Result<Link, AllocError>
@@ -126,6 +152,17 @@ impl Link {
     {
         let stage = Box::new(alloc, stage)?;
         Ok(Link { number, stage })
+    }
+
+    /// Goes on behind a request that was sealed ahead on this very link, which is open. It wants no memory.
+    #[tactic(auto, using(crate::proofs::connector::Stages::ahead_held, crate::proofs::connector::Stages::behind_held))]
+    pub fn go_on(self, ahead: OpenAhead) -> Link
+        requires { IsAheadOn self ahead }
+        ensures { result ≡ behind_asked self ahead }
+    {
+        let mut link = self;
+        link.stage.go_on(ahead);
+        link
     }
 
     /// Whether it is open.

@@ -1,7 +1,7 @@
 //! Requests that are sent.
 
 ghost use Rattle.std.specs.Prelude.{◌≡◌, ◌<◌, ◌-◌, ◌^◌, IfOk, length};
-ghost use Rattle.cx_node.specs.steps.Sending.{SendsSecure};
+ghost use Rattle.cx_node.specs.steps.Sending.{SealsSecure};
 ghost use Rattle.cx_rules.specs.Requests.{request_message, sealed_request};
 ghost use Rattle.cx_rules.specs.Secured.{secure_frame};
 ghost use Rattle.cx_rules.specs.declared.requests.Want.TheVariants.{Rotating, Tickets};
@@ -10,31 +10,31 @@ ghost use Rattle.cx_wire.specs.declared.bodies.Request.TheVariants as asked;
 ghost use Rattle.cx_monclient.specs.requests.Asking.{AsksFor, IsNoted};
 
 use crate::kept::Requests;
-use cx_base::{Blob, Items, Reading};
+use crate::links::OpenAhead;
+use cx_base::{Blob, Duplicate, Items, Reading};
 use cx_journal::{BytesFault, Reason};
-use cx_node::{SecureLink, SentFrame, send_message};
+use cx_node::{AheadFrame, SecureLink, seal_message};
 use cx_rules::Want;
 use cx_steps::SealEntry;
 use cx_wire::{Header, REQUEST, Request, put_request};
 use std::alloc::{AllocError, Global};
 
-/// A link on which a request was sent, what is kept of it, the bytes, and what is logged of them.
+/// A request that was sealed ahead on a link: what that goes on by behind it, the bytes, and what is logged of them.
 #[derive(Drop)]
 pub struct Asked {
-    pub link: SecureLink,
-    pub requests: Requests,
+    pub ahead: OpenAhead,
     pub bytes: Blob,
     pub seals: Items<SealEntry>,
 }
 
-/// Asks for tickets, by the sum of the numbers of their services, or says why the link is refused.
+/// Asks for tickets, by the sum of the numbers of their services, or says why the link is refused. The link stays as it is until it goes on behind the request.
 pub fn ask_tickets(
     alloc: Global,
-    link: SecureLink,
-    requests: Requests,
+    link: &SecureLink,
+    requests: &Requests,
     services: u32,
 ) -> Result<Result<Asked, Reason>, AllocError>
-    ensures { IfOk result (AsksFor link requests Tickets (sealed_request link.keys requests (asked.Tickets services))) }
+    ensures { IfOk result (AsksFor link.now requests.now Tickets (sealed_request link.now.keys requests.now (asked.Tickets services))) }
 {
     ask(
         alloc,
@@ -45,14 +45,14 @@ pub fn ask_tickets(
     )
 }
 
-/// Asks for the generations of a daemon's own type, at this reading, or says why the link is refused.
+/// Asks for the generations of a daemon's own type, at this reading, or says why the link is refused. The link stays as it is until it goes on behind the request.
 pub fn ask_rotating(
     alloc: Global,
-    link: SecureLink,
-    requests: Requests,
+    link: &SecureLink,
+    requests: &Requests,
     reading: Reading,
 ) -> Result<Result<Asked, Reason>, AllocError>
-    ensures { IfOk result (AsksFor link requests (Rotating reading) (sealed_request link.keys requests asked.Rotating)) }
+    ensures { IfOk result (AsksFor link.now requests.now (Rotating reading) (sealed_request link.now.keys requests.now asked.Rotating)) }
 {
     ask(
         alloc,
@@ -66,52 +66,58 @@ pub fn ask_rotating(
 // The next request, while there is one.
 fn ask(
     alloc: Global,
-    link: SecureLink,
-    requests: Requests,
+    link: &SecureLink,
+    requests: &Requests,
     want: Want,
     request: &Request,
 ) -> Result<Result<Asked, Reason>, AllocError>
-    ensures { IfOk result (AsksFor link requests want (sealed_request link.keys requests request.now)) }
+    ensures { IfOk result (AsksFor link.now requests.now want (sealed_request link.now.keys requests.now request.now)) }
 {
     if requests.count() == u64::MAX {
         return Ok(Err(Reason::Spent));
     }
     let number = requests.count() + 1;
-    match send_request(alloc, link, number, request)? {
+    match seal_request(alloc, link, number, request)? {
         Err(why) => Ok(Err(Reason::Bytes(why))),
-        Ok(sent) => noted(alloc, sent, requests, want),
+        Ok(sealed) => noted(alloc, sealed, requests, want),
     }
 }
 
-// A request that was sent is noted.
+// A request that was sealed is noted.
 fn noted(
     alloc: Global,
-    sent: SentFrame,
-    requests: Requests,
+    sealed: AheadFrame,
+    requests: &Requests,
     want: Want,
 ) -> Result<Result<Asked, Reason>, AllocError>
-    requires { requests.count < 2 ^ 64 - 1 }
-    ensures { IfOk result (IsNoted sent requests want) }
+    requires { requests.now.count < 2 ^ 64 - 1 }
+    ensures { IfOk result (IsNoted sealed requests.now want) }
 {
-    let mut requests = requests;
+    let mut requests = requests.copy(alloc)?;
     requests.note(alloc, want)?;
-    let SentFrame { link, bytes, seals } = sent;
+    let AheadFrame {
+        ahead,
+        bytes,
+        seals,
+    } = sealed;
     Ok(Ok(Asked {
-        link,
-        requests,
+        ahead: OpenAhead {
+            link: ahead,
+            requests,
+        },
         bytes,
         seals,
     }))
 }
 
 // Message 17 with this number.
-fn send_request(
+fn seal_request(
     alloc: Global,
-    link: SecureLink,
+    link: &SecureLink,
     number: u64,
     request: &Request,
-) -> Result<Result<SentFrame, BytesFault>, AllocError>
-    ensures { IfOk result (SendsSecure link (secure_frame link.keys (request_message number request.now))) }
+) -> Result<Result<AheadFrame, BytesFault>, AllocError>
+    ensures { IfOk result (SealsSecure link.now (secure_frame link.now.keys (request_message number request.now))) }
 {
     let body = request_body(alloc, request)?;
     let header = Header {
@@ -119,7 +125,7 @@ fn send_request(
         tid: number,
         type_: REQUEST,
     };
-    send_message(alloc, link, &header, body)
+    seal_message(alloc, link, &header, body)
 }
 
 fn request_body(alloc: Global, request: &Request) -> Result<Blob, AllocError>

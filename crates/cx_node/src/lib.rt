@@ -59,9 +59,9 @@ pub use turner::Turner;
 pub use turns::{carries, turn};
 pub use upkeep::{is_keepalive, upkept};
 // What crates above name through this one, and so needn't list.
-pub use cx_link::{LinkRefusal, SecureLink, SentFrame};
+pub use cx_link::{AheadFrame, LinkRefusal, SealedAhead, SecureLink, SentFrame};
 pub use frames::message_frame;
-pub use messages_sending::{send_acknowledgement, send_frames, send_message};
+pub use messages_sending::{seal_message, send_acknowledgement, send_frames, send_message};
 pub use reading::{body_in, header_in, reply_in, request_in};
 
 // Each public type may be sent to another thread and shared with one, where its links may.

@@ -4,11 +4,11 @@ ghost use Rattle.std.specs.Prelude.{◌≡◌, ◌<◌, ◌^◌, All, IfOk, leng
 ghost use Rattle.cx_frame.specs.Frames.{IsAnnounceable};
 ghost use Rattle.cx_node.specs.cx_rules.specs.Messages.{acknowledgement, message, sealed_behind, secure_frames};
 ghost use Rattle.cx_node.specs.cx_rules.specs.Secured.{secure_frame};
-ghost use Rattle.cx_node.specs.steps.Sending.{SendsSecure};
+ghost use Rattle.cx_node.specs.steps.Sending.{SealsSecure, SendsSecure};
 ghost use Rattle.cx_node.specs.messages.Sending.{sealed_of};
 
 use crate::frames::message_frame;
-use crate::{LinkRefusal, SecureLink, SentFrame, send_secure};
+use crate::{AheadFrame, LinkRefusal, SecureLink, SentFrame, send_secure};
 use cx_base::{Blob, Items};
 use cx_control::Ack;
 use cx_frame::Frame;
@@ -29,6 +29,24 @@ pub fn send_message(
 {
     let frame = message_frame(alloc, header, body)?;
     send_frame(alloc, link, &frame)
+}
+
+/// Seals a message ahead on a secured link, which stays as it is until it goes on behind it, or says why it can't be written: then the link is given up.
+pub fn seal_message(
+    alloc: Global,
+    link: &SecureLink,
+    header: &Header,
+    body: Blob,
+) -> Result<Result<AheadFrame, BytesFault>, AllocError>
+    requires { length body < 2 ^ 32 }
+    ensures { IfOk result (SealsSecure link.now (secure_frame link.now.keys (message header.now body))) }
+{
+    let frame = message_frame(alloc, header, body)?;
+    match link.seal_ahead(alloc, &frame) {
+        Ok(sealed) => Ok(Ok(sealed)),
+        Err(LinkRefusal::Fault(why)) => Ok(Err(why)),
+        Err(LinkRefusal::OutOfMemory) => Err(AllocError),
+    }
 }
 
 /// Sends ACK: messages up to this seq were taken.

@@ -1,5 +1,6 @@
 -- The rows and the turns of the rules as they are made on a link to the monitor.
-use Rattle.std.specs.Prelude.{ℕ, List, [], ◌∷◌, Option, Some, None, Result}
+use Rattle.std.specs.Prelude.{ℕ, List, [], ◌∷◌, Option, Some, None, IfSome, Result}
+use Rattle.std.specs.Option.{option_map}
 use Rattle.cx_control.specs.declared.bad_method.AuthBadMethod.{AuthBadMethod}
 use Rattle.cx_node.specs.cx_dice.specs.Draws.{challenge_of, cookie_of}
 use Rattle.cx_node.specs.steps.Stages.{keys_alone}
@@ -26,7 +27,8 @@ use Rattle.cx_node.specs.steps.Steps.{IsTurn}
 use Rattle.cx_node.specs.declared.came.Came.{Came}
 use Rattle.cx_node.specs.declared.steps_rows.NoRow.{NoRow}
 use Rattle.cx_node.specs.declared.steps_rows.NodeRow.{NodeRow}
-use Rattle.cx_monclient.specs.connector.Stages.{MonClientLink}
+use Rattle.cx_monclient.specs.connector.Stages.{IsAheadOn, MonClientLink, behind_asked}
+use Rattle.cx_monclient.specs.declared.links.OpenAhead.{OpenAhead}
 use Rattle.cx_monclient.specs.declared.rows.Change.{Change}
 use Rattle.cx_monclient.specs.declared.rows.Change.TheVariants.{Forgets, Holds, Renews, Views}
 
@@ -49,16 +51,21 @@ Makes mon_client at link rule made = making.Makes abridged_mon_client_link chang
 abbrev pub IsMonClientTurn : MonClient → Moment → MonClientLink → Came MonClientLink Change → Type 0
 IsMonClientTurn mon_client at link come = IsTurn abridged_mon_client_link changed mon_client link (turned_at (arrived mon_client at link) link.stage) come
 
--- a row was made by which something is asked for on an open link, which keeps this
-abbrev pub AsksOn : MonClient → Moment → MonClientLink → (MonClientArrival → Secured → Requests → MonClientRow) → Option (Secured × Requests) → Made MonClientLink → Type 0
+-- a row by what its link goes on by behind what was sealed ahead on it, as the one of that link
+abbrev pub row_ahead : MonClientLink → Made OpenAhead → Made MonClientLink
+row_ahead link row = record { link = option_map (behind_asked link) row.link; sends = row.sends; save = row.save; entries = row.entries; seals = row.seals }
+
+-- a row was made by which something is asked for on an open link, which keeps this; where that goes on, the request was sealed ahead on it
+abbrev pub AsksOn : MonClient → Moment → MonClientLink → (MonClientArrival → Secured → Requests → MonClientRow) → Option (Secured × Requests) → Made OpenAhead → Type 0
 AsksOn mon_client at link asks None row = ⊥
-AsksOn mon_client at link asks (Some (s, requests)) row = IsRow abridged_mon_client_link at.number mon_client (asks (arrived mon_client at link) s requests) row
+AsksOn mon_client at link asks (Some (s, requests)) row =
+    IsRow abridged_mon_client_link at.number mon_client (asks (arrived mon_client at link) s requests) (row_ahead link row) × IfSome row.link (IsAheadOn link)
 
 -- by a client for tickets, by the sum of their services; by a daemon for the generations of its own type
-abbrev pub AsksTickets : MonClient → Moment → MonClientLink → ℕ → Made MonClientLink → Type 0
+abbrev pub AsksTickets : MonClient → Moment → MonClientLink → ℕ → Made OpenAhead → Type 0
 AsksTickets mon_client at link services row = AsksOn mon_client at link (λ a s requests. asks_tickets Open a s requests services) (kept_open link.stage) row
 
-abbrev pub AsksGenerations : MonClient → Moment → MonClientLink → Made MonClientLink → Type 0
+abbrev pub AsksGenerations : MonClient → Moment → MonClientLink → Made OpenAhead → Type 0
 AsksGenerations mon_client at link row = AsksOn mon_client at link (asks_rotating Open) (kept_open link.stage) row
 
 -- ---- rows by what was read and checked

@@ -1,13 +1,14 @@
 -- The links to the monitor as they are held, each as the link of the rules that it is, abridged.
-use Rattle.std.specs.Prelude.{ℕ, Bool, true, List}
+use Rattle.std.specs.Prelude.{ℕ, ◌≡◌, Bool, true, List}
 use Rattle.cx_node.specs.steps.Stages.{keys_alone}
-use Rattle.cx_link.specs.Sending.{secured_of}
+use Rattle.cx_link.specs.Sending.{behind_ahead, secured_of}
 use Rattle.cx_link.specs.Wires.{SecureWire, secured_link, wired}
 use Rattle.cx_link.specs.declared.links.Signing.{Signing}
 use Rattle.cx_node.specs.cx_rules.specs.Connector as connector
 use Rattle.cx_node.specs.cx_rules.specs.Connector.{Login}
 use Rattle.cx_node.specs.cx_rules.specs.Links.{Link}
 use Rattle.cx_node.specs.cx_rules.specs.Requests.{Requests, carries_fetch}
+use Rattle.cx_monclient.specs.declared.links.OpenAhead.{OpenAhead}
 use Rattle.cx_monclient.specs.declared.links.Stage.{Stage}
 use Rattle.cx_monclient.specs.declared.links.Stage.TheVariants as held
 
@@ -38,3 +39,30 @@ link_held number (held.Open link requests) = open_link number link requests
 abbrev pub is_fetching : connector.Stage → Bool
 is_fetching (connector.Open s requests) = carries_fetch requests
 is_fetching stage = true
+
+-- ---- a request that was sealed ahead
+
+-- it was so under the counter at which this open link stands
+abbrev pub IsAheadAt : Stage → OpenAhead → Type 0
+IsAheadAt (held.Open link requests) a = a.link.from ≡ link.keys.out.counter
+IsAheadAt stage a = ⊥
+
+-- the stage behind it
+abbrev pub stage_ahead : Stage → OpenAhead → Stage
+stage_ahead (held.Open link requests) a = held.Open (behind_ahead link a.link) a.requests
+stage_ahead stage a = stage
+
+-- the same of a link of the rules
+abbrev pub IsAheadIn : connector.Stage → OpenAhead → Type 0
+IsAheadIn (connector.Open s requests) a = a.link.from ≡ s.keys.out.counter
+IsAheadIn stage a = ⊥
+
+abbrev pub IsAheadOn : MonClientLink → OpenAhead → Type 0
+IsAheadOn link a = IsAheadIn link.stage a
+
+abbrev pub stage_behind : connector.Stage → OpenAhead → connector.Stage
+stage_behind (connector.Open s requests) a = connector.Open (record s { keys = record s.keys { out = record s.keys.out { counter = a.link.next } } }) a.requests
+stage_behind stage a = stage
+
+abbrev pub behind_asked : MonClientLink → OpenAhead → MonClientLink
+behind_asked link a = record link { stage = stage_behind link.stage a }

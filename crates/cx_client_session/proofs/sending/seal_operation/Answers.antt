@@ -1,7 +1,7 @@
 use Rattle.cx_client_session.specs.cx_client_connect.proofs.session.Writable.{short_body}
-use Rattle.cx_client_session.proofs.sending.send_operation.Goals as goal
+use Rattle.cx_client_session.proofs.sending.seal_operation.Goals as goal
 
-pub send_message-requires : goal.send_message-requires
-send_message-requires c =
+pub seal_message-requires : goal.seal_message-requires
+seal_message-requires c =
     let text = rw c.new-body.ensures at c.in_ok-put_operation.ensures.ok in
     rw text (short_body c.args.operation.now c.requires)
