@@ -20,7 +20,7 @@ use Rattle.cx_words.specs.declared.choices.Side.{Side}
 use Rattle.cx_words.specs.declared.choices.Side.TheVariants.{Connector, Acceptor}
 use Rattle.cx_world.specs.declared.idle.IdleLine.{IdleLine}
 use Rattle.cx_world.specs.declared.idle.IdleReason.{IdleReason}
-use Rattle.cx_world.specs.declared.idle.IdleReason.TheVariants.{NoLink, NothingUnderWay, EndGone, NoPiece, BothGone}
+use Rattle.cx_world.specs.declared.idle.IdleReason.TheVariants.{NoLink, NothingUnderWay, EndGone, NoPiece, BothGone, NoSession, NoSave}
 use Rattle.cx_words.specs.Cutting.{lines_of}
 use Rattle.cx_top.specs.declared.status.Status.{Status}
 use Rattle.cx_top.specs.declared.status.Status.TheVariants.{Done, Usage, BadSchedule, ReadFault, WriteFault, OutOfMemory, BadKeyring, Broken as BrokenStatus, TooLong, BadJournal}
@@ -100,6 +100,8 @@ idle_reason_text (NothingUnderWay link side) = codes "on link " <> decimal link 
 idle_reason_text (EndGone link side) = codes "on link " <> decimal link <> codes " " <> side_text side <> codes " is gone"
 idle_reason_text (NoPiece link side place) = codes "on link " <> decimal link <> codes " " <> side_text side <> codes " sent no piece " <> decimal place
 idle_reason_text (BothGone link) = codes "link " <> decimal link <> codes " has no end left"
+idle_reason_text (NoSession session) = codes "session " <> decimal session <> codes " isn't there"
+idle_reason_text NoSave = codes "the monitor had nothing to save before the next failsave line or the end"
 
 abbrev pub idle_text : IdleLine → List ℕ
 idle_text idle = codes "line " <> decimal idle.number <> codes " did nothing: " <> idle_reason_text idle.why

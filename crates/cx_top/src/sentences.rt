@@ -261,6 +261,11 @@ impl fmt::Display for WhyIdle {
                 )
             }
             IdleReason::BothGone(link) => write!(f, "link {link} has no end left"),
+            IdleReason::NoSession(session) => write!(f, "session {session} isn't there"),
+            IdleReason::NoSave => write!(
+                f,
+                "the monitor had nothing to save before the next failsave line or the end"
+            ),
         }
     }
 }

@@ -30,7 +30,7 @@ nodes_more : (start : Nodes) (hs : List Happening) (h : Happening) → nodes_beh
 nodes_more start [] h = refl
 nodes_more start (x ∷ hs) h = nodes_more (steps start x).nodes hs h
 
-journal_more : (start : Nodes) (hs : List Happening) (h : Happening) → journal_from start (hs ++ h ∷ []) ≡ journal_from start hs ++ entered_by h (steps (nodes_behind start hs) h).out
+pub journal_more : (start : Nodes) (hs : List Happening) (h : Happening) → journal_from start (hs ++ h ∷ []) ≡ journal_from start hs ++ entered_by h (steps (nodes_behind start hs) h).out
 journal_more start [] h = append-nil (entered_by h (steps start h).out)
 journal_more start (x ∷ hs) h =
     ap (λ (es : List Entered). entered_by x (steps start x).out ++ es) (journal_more (steps start x).nodes hs h)

@@ -2,6 +2,7 @@ pub mod actors
 pub mod Arrivals
 pub mod Carrying
 pub mod Changing
+pub mod Dropping
 pub mod Giving
 pub mod Idling
 pub mod Logging

@@ -18,7 +18,7 @@ ghost use Rattle.cx_world.specs.Carried.{Carries, MakesAlone};
 ghost use Rattle.cx_world.specs.Idle.{idle_lines, FindsIdle};
 
 use crate::Setup;
-use crate::idle::IdleLine;
+use crate::idle::{IdleLine, last_failsave, note_unsaved};
 use crate::records::Record;
 use crate::world::World;
 use cx_base::{Duplicate, Items};
@@ -93,10 +93,12 @@ fn act_all(
     ensures idle { IfOk result (FindsIdle (handlers_of desk.now) world.old lines.now) }
 {
     let mut idle = Items::new(alloc);
+    let mut last = None;
     for line in lines {
-        world.note_idle(alloc, line, &mut idle)?;
-        world.act(alloc, desk, line)?;
+        world.act_noting(alloc, desk, line, last, &mut idle)?;
+        last = last_failsave(last, line);
     }
+    note_unsaved(alloc, world.left, last, &mut idle)?;
     Ok(idle)
 }
 
