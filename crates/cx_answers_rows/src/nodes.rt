@@ -3,7 +3,7 @@
 ghost use Rattle.cx_rotate.specs.Keeping.{IsKeptState, IsLife};
 
 use crate::named::{Member, Named, local, member_of, ring_of};
-use cx_base::SECOND;
+use cx_base::{EntityType, SECOND};
 use cx_client::Client;
 use cx_keep::decode_state;
 use cx_keyserver::KeyServer;
@@ -78,5 +78,8 @@ pub fn client_of(
         return Ok(None);
     };
     let Member { name, key } = member;
+    let EntityType::Client = name.kind else {
+        return Ok(None);
+    };
     Ok(Some(Client::new(alloc, name, key, named.modes(), named.address())))
 }

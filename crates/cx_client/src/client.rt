@@ -1,6 +1,7 @@
 //! A client.
 
 ghost use Rattle.std.specs.Prelude.{◌≡◌, OnOk, OnErr, if◌then◌else◌};
+ghost use Rattle.cx_base.specs.declared.kinds.EntityType.TheVariants as entity_type;
 ghost use Rattle.cx_node.specs.cx_rules.specs.Inputs.{input_of};
 ghost use Rattle.cx_client.specs.cx_rules_session.specs.ClientRule.{WholeClientNode, is_idle, opening_whole_client, whole_client_rule};
 ghost use Rattle.cx_client.specs.cx_rules_session.specs.Forgets.{WholeClientStandsFor, abridged_whole_client};
@@ -40,8 +41,9 @@ impl Model for Client {
 }
 
 impl Client {
-    /// A client as it begins: its name and its key, the modes that it offers, and its address. It holds no ticket and no session.
+    /// A client as it begins: its name, which is a client's, and its key, the modes that it offers, and its address. It holds no ticket and no session.
     pub fn new(alloc: Global, name: EntityName, key: Key, modes: OfferedModes, me: Addr) -> Client
+        requires { name.kind ≡ entity_type.Client }
         ensures value { result ≡ opening_whole_client (opening_mon_client name key modes me) }
         ensures stands { WholeClientStandsFor result (opening_whole_client (opening_mon_client name key modes me)) }
     {

@@ -1,3 +1,4 @@
+mod Named
 mod NodeEnds
 mod Spelled
 mod Words

@@ -1,6 +1,8 @@
 //! The commands that run a node: the script is read before it, and what it entered is written behind it.
 
-ghost use Rattle.std.specs.Prelude.{◌≡◌, ◌≤◌, IfOk, None, Some, string_bytes};
+ghost use Rattle.std.specs.Prelude.{◌≡◌, ◌≤◌, true, IfOk, None, Some, string_bytes};
+ghost use Rattle.cx_base.specs.Names.{is_daemon_type};
+ghost use Rattle.cx_base.specs.declared.kinds.EntityType.TheVariants as entity_type;
 ghost use Rattle.std.specs.Option.{option_map};
 ghost use Rattle.cx_drive_commands.specs.nodes.Monitors.{IsMonitorCommand};
 ghost use Rattle.cx_drive_commands.specs.nodes.Outside.{outside};
@@ -71,6 +73,7 @@ pub(crate) fn client<I: Source, O: Sink, K: Keeper, L: Links, C: Clock, D: Dice>
     clock: &mut C,
     dice: &mut D,
 ) -> CommandEnd
+    requires { command.now.name.kind ≡ entity_type.Client }
     ensures ends { NodeAnswers kind.Client (Some (name_seen command.now.name)) (ClientRun L.follows (lent keeper.old links.old clock.old dice.old) (lent keeper.new links.new clock.new dice.new)
         (outside (K.kept keeper.old) (K.faults keeper.old) links.old (L.faults links.old) (L.misses links.old) (C.coming clock.old) (D.coming dice.old) (D.faults dice.old))
         (outside (K.kept keeper.new) (K.faults keeper.new) links.new (L.faults links.new) (L.misses links.new) (C.coming clock.new) (D.coming dice.new) (D.faults dice.new))
@@ -103,6 +106,7 @@ pub(crate) fn daemon<I: Source, O: Sink, K: Keeper, L: Links, C: Clock, D: Dice>
     dice: &mut D,
     desk: &Desk,
 ) -> CommandEnd
+    requires { is_daemon_type command.now.name.kind ≡ true }
     ensures ends { NodeAnswers kind.Daemon (Some (name_seen command.now.name)) (DaemonRun L.follows (lent keeper.old links.old clock.old dice.old) (lent keeper.new links.new clock.new dice.new)
         (outside (K.kept keeper.old) (K.faults keeper.old) links.old (L.faults links.old) (L.misses links.old) (C.coming clock.old) (D.coming dice.old) (D.faults dice.old))
         (outside (K.kept keeper.new) (K.faults keeper.new) links.new (L.faults links.new) (L.misses links.new) (C.coming clock.new) (D.coming dice.new) (D.faults dice.new))

@@ -1,6 +1,7 @@
 //! A daemon.
 
-ghost use Rattle.std.specs.Prelude.{◌≡◌, OnOk, OnErr};
+ghost use Rattle.std.specs.Prelude.{◌≡◌, true, OnOk, OnErr};
+ghost use Rattle.cx_base.specs.Names.{is_daemon_type};
 ghost use Rattle.cx_desk.specs.Held.{handlers_of};
 ghost use Rattle.cx_node.specs.cx_rules.specs.Inputs.{input_of};
 ghost use Rattle.cx_daemon_events.specs.cx_rules_session.specs.DaemonRule.{DaemonState, daemon_step, is_idle};
@@ -43,8 +44,9 @@ impl Model for Daemon {
 }
 
 impl Daemon {
-    /// A daemon as it begins: its name and its key, the modes that it offers, and its address. It holds no generations and no session.
+    /// A daemon as it begins: its name, which is a daemon's, and its key, the modes that it offers, and its address. It holds no generations and no session.
     pub fn new(alloc: Global, name: EntityName, key: Key, modes: OfferedModes, me: Addr) -> Daemon
+        requires { is_daemon_type name.kind ≡ true }
         ensures value { result ≡ opening_state (opening_mon_client name key modes me) }
         ensures stands { DaemonStandsFor result (opening_state (opening_mon_client name key modes me)) }
     {
@@ -56,7 +58,9 @@ impl Daemon {
         }
     }
 
-    /// What the daemon does at an event. Operations that are allowed are served by the handlers of this desk.
+    /// What the daemon does at an event. Operations that are allowed are served by the handlers of this desk. One is taken last of all: where memory is
+    /// wanting, also behind its handler's call, it isn't taken and nothing is told of it, and its handler may be called again when the client sends
+    /// it again.
     pub fn step(
         &mut self,
         alloc: Global,

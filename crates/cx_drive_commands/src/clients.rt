@@ -3,6 +3,7 @@
 ghost use Rattle.std.specs.Prelude.{◌≡◌, ◌<◌, [], ◌++◌, map, vec_len, IfErr, IfOk, MatchResult, OnOk};
 ghost use Rattle.std.specs.List.{flat_map};
 ghost use Rattle.cx_base.specs.Streams.{Rose};
+ghost use Rattle.cx_base.specs.declared.kinds.EntityType.TheVariants as entity_type;
 ghost use Rattle.cx_drive.specs.Held.{lost_client, regard_client};
 ghost use Rattle.cx_command_line.specs.Commands.{asked_client};
 ghost use Rattle.cx_command_line.specs.Words.{peer};
@@ -44,6 +45,7 @@ pub fn run_client<K: Keeper, L: Links, C: Clock, D: Dice>(
     clock: &mut C,
     dice: &mut D,
 ) -> NodeReport
+    requires { command.now.name.kind ≡ entity_type.Client }
     // What it ran from, and the run of its rule behind what was told; or why it didn't run.
     ensures ends { ClientEnds L.follows (asked_client command.now) bytes.now
         (outside (K.kept keeper.old) (K.faults keeper.old) links.old (L.faults links.old) (L.misses links.old) (C.coming clock.old) (D.coming dice.old) (D.faults dice.old))
@@ -81,6 +83,7 @@ fn loads<K: Keeper>(
     bytes: &[u8],
     keeper: &mut K,
 ) -> Result<Ready<Client>, Unloaded>
+    requires { command.now.name.kind ≡ entity_type.Client }
     ensures ok { IfOk result (IsClientReady (asked_client command.now) bytes.now (K.kept keeper.old)) }
     ensures err { IfErr result (IsNamedRefusal (name_seen command.now.name) (client_peers (asked_client command.now)) bytes.now (K.kept keeper.old) (K.faults keeper.old) (K.faults keeper.new)) }
     ensures only { IsNamedServed (name_seen command.now.name) (client_peers (asked_client command.now)) bytes.now (K.kept keeper.old) → ¬ Rose (K.faults keeper.old) (K.faults keeper.new)
@@ -110,6 +113,7 @@ fn loads<K: Keeper>(
 
 // A client that offers both modes, the CRC one first. It has no address of its own, since it doesn't listen.
 fn client_with(alloc: Global, name: EntityName, key: Key) -> Client
+    requires { name.kind ≡ entity_type.Client }
     ensures value { result ≡ client_with name key }
     ensures stands { WholeClientStandsFor result (client_with name key) }
 {

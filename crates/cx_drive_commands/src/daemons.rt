@@ -1,6 +1,7 @@
 //! The command that runs a daemon.
 
-ghost use Rattle.std.specs.Prelude.{◌≡◌, ◌<◌, [], vec_len, IfErr, IfOk, MatchResult, OnOk};
+ghost use Rattle.std.specs.Prelude.{◌≡◌, ◌<◌, true, [], vec_len, IfErr, IfOk, MatchResult, OnOk};
+ghost use Rattle.cx_base.specs.Names.{is_daemon_type};
 ghost use Rattle.cx_base.specs.Streams.{Rose};
 ghost use Rattle.cx_drive_commands.specs.daemon.Daemons.{DaemonEnds, IsDaemonReady, daemon_with, monitor_at};
 ghost use Rattle.cx_drive_commands.specs.daemon.Held.{lost_daemon, regard_daemon, rests_daemon};
@@ -44,6 +45,7 @@ pub fn run_daemon<K: Keeper, L: Links, C: Clock, D: Dice>(
     clock: &mut C,
     dice: &mut D,
 ) -> NodeReport
+    requires { is_daemon_type command.now.name.kind ≡ true }
     // What it ran from, and the run of its rule behind what was told; or why it didn't run.
     ensures ends { DaemonEnds L.follows (handlers_of desk.now) (asked_daemon command.now) bytes.now
         (outside (K.kept keeper.old) (K.faults keeper.old) links.old (L.faults links.old) (L.misses links.old) (C.coming clock.old) (D.coming dice.old) (D.faults dice.old))
@@ -91,6 +93,7 @@ fn loads<K: Keeper>(
     bytes: &[u8],
     keeper: &mut K,
 ) -> Result<Ready<Daemon>, Unloaded>
+    requires { is_daemon_type command.now.name.kind ≡ true }
     ensures ok { IfOk result (IsDaemonReady (asked_daemon command.now) bytes.now (K.kept keeper.old)) }
     ensures err { IfErr result (IsNamedRefusal (name_seen command.now.name) [] bytes.now (K.kept keeper.old) (K.faults keeper.old) (K.faults keeper.new)) }
     ensures only { IsNamedServed (name_seen command.now.name) [] bytes.now (K.kept keeper.old) → ¬ Rose (K.faults keeper.old) (K.faults keeper.new)
@@ -114,6 +117,7 @@ fn loads<K: Keeper>(
 
 // A daemon that offers the secure mode alone.
 fn daemon_with(alloc: Global, name: EntityName, key: Key, at: Addr) -> Daemon
+    requires { is_daemon_type name.kind ≡ true }
     ensures value { result ≡ daemon_with name key at }
     ensures stands { DaemonStandsFor result (daemon_with name key at) }
 {

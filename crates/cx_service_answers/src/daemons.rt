@@ -38,6 +38,9 @@ impl<'a> Daemons<'a> {
             return format!(in alloc; "daemon {row}: no such entity\n");
         };
         let Member { name, key } = member;
+        if !name.kind.is_daemon() {
+            return format!(in alloc; "daemon {row}: no daemon\n");
+        }
         self.nodes.push(DaemonNode {
             name: String::from_str(alloc, named.name)?,
             daemon: Daemon::new(alloc, name, key, named.modes(), named.address()),

@@ -405,10 +405,10 @@ fn expect_of_session(rt: &impl Abort, alloc: Global, fault: SessionFault, words:
     expect_words(rt, alloc, Reason::Session(fault), words);
 }
 
-fn owner_differs(rt: &impl Abort, alloc: Global) -> SessionFault {
+fn owner_differs(rt: &impl Abort, alloc: Global, gid: u64) -> SessionFault {
     SessionFault::OwnerDiffers {
         entity: client(rt, alloc),
-        gid: 2,
+        gid,
     }
 }
 
@@ -425,8 +425,14 @@ fn faults_of_sessions_have_their_words(rt: HostRuntime) {
     expect_of_session(
         &rt,
         alloc,
-        owner_differs(&rt, alloc),
+        owner_differs(&rt, alloc, 2),
         "owner-differs client.a 2",
+    );
+    expect_of_session(
+        &rt,
+        alloc,
+        owner_differs(&rt, alloc, u64::MAX),
+        "owner-differs client.a 18446744073709551615",
     );
 }
 

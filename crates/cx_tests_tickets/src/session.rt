@@ -236,10 +236,10 @@ fn expect_reply(
     assert!(rt; replied(rt, alloc, book, call) == expected);
 }
 
-/// A book with the session 1 of the owner `a` under the client cookie 7.
-fn book_of_one(rt: &impl Abort, alloc: Global) -> SessionBook<Holder> {
+/// A book with the session 1 of the owner `a` of this global id under the client cookie 7.
+fn book_of_one(rt: &impl Abort, alloc: Global, gid: u64) -> SessionBook<Holder> {
     let mut book = SessionBook::new(alloc);
-    let call = admission_of(owned_by(rt, alloc, b'a', 2));
+    let call = admission_of(owned_by(rt, alloc, b'a', gid));
     let number = 1;
     expect_reply(
         rt,
@@ -253,7 +253,7 @@ fn book_of_one(rt: &impl Abort, alloc: Global) -> SessionBook<Holder> {
 
 #[test]
 fn a_session_is_resumed_by_its_owner_alone(rt: HostRuntime) {
-    let mut book = book_of_one(&rt, rt.alloc());
+    let mut book = book_of_one(&rt, rt.alloc(), 2);
     let call = resumption_of(owned_by(&rt, rt.alloc(), b'b', 2));
     let entity = name(&rt, rt.alloc(), b'a');
     let refusal = BookReply::Refused(BookFault::OwnerDiffers { entity, gid: 2 });
@@ -266,6 +266,29 @@ fn a_session_is_resumed_by_its_owner_alone(rt: HostRuntime) {
         lossy: true,
     };
     expect_reply(&rt, rt.alloc(), &mut book, call, resumed);
+}
+
+/// Global ids about each round number, and the greatest one.
+const LARGE: [u64; 8] = [
+    255,
+    256,
+    65_535,
+    65_536,
+    4_294_967_295,
+    4_294_967_296,
+    9_223_372_036_854_775_808,
+    18_446_744_073_709_551_615,
+];
+
+#[test]
+fn an_owner_of_a_large_global_id_is_told(rt: HostRuntime) {
+    for gid in &LARGE {
+        let mut book = book_of_one(&rt, rt.alloc(), *gid);
+        let call = resumption_of(owned_by(&rt, rt.alloc(), b'b', *gid));
+        let entity = name(&rt, rt.alloc(), b'a');
+        let refusal = BookReply::Refused(BookFault::OwnerDiffers { entity, gid: *gid });
+        expect_reply(&rt, rt.alloc(), &mut book, call, refusal);
+    }
 }
 
 fn answered(alloc: Global, book: &mut SessionBook<Holder>, call: BookCall<Holder>) -> BookReply {
@@ -299,7 +322,7 @@ fn laws() {
 
 #[test]
 fn each_call_is_answered(rt: HostRuntime) {
-    let mut book = book_of_one(&rt, rt.alloc());
+    let mut book = book_of_one(&rt, rt.alloc(), 2);
     let other = owned_by(&rt, rt.alloc(), b'a', 3);
     assert!(rt; given_back(rt.alloc(), &mut book, other) == Some((ResumeFault::Unknown, 3)));
     assert!(rt; is_taken(&mut book, 1));

@@ -6,7 +6,10 @@ use Rattle.std.specs.List.{flat_map}
 use Rattle.std.specs.Str.{bytes_eq}
 use Rattle.cx_help.specs.audit.Wrong.{wrong_in_journal_text}
 use Rattle.cx_base.specs.Joined.{◌<>◌}
+use Rattle.cx_base.specs.Names.{is_daemon_type}
 use Rattle.cx_base.specs.Nodes.{node_text}
+use Rattle.cx_base.specs.declared.nodes.NodeName.{NodeName}
+use Rattle.cx_base.specs.declared.nodes.NodeName.TheVariants as place
 use Rattle.cx_journal.specs.Words.{key_kind_word}
 use Rattle.cx_journal.specs.declared.premises.Broken.{Broken}
 use Rattle.cx_journal.specs.declared.premises.Premise.{Premise}
@@ -69,18 +72,26 @@ usage_told (command ∷ word ∷ words) =
 abbrev pub place_text : ℕ → List ℕ
 place_text line = if line == 0 then codes "before the first line" else codes "at line " <> decimal line
 
+-- what to do about it there: what opens under the keys of a leaked client is excepted at the monitor and at daemons, and nowhere else
+abbrev pub cure_by : Bool → List ℕ
+cure_by true = codes "leave out what is injected there, or, where a client's key made it, leak that client"
+cure_by false = codes "leave out what is injected there; at a client's own node nothing is excepted, whoever is leaked"
+
+abbrev pub cure_text : NodeName → List ℕ
+cure_text place.Monitor = cure_by true
+cure_text (place.Entity name) = cure_by (is_daemon_type name.kind)
+
 -- what broke it, and what to do
-abbrev pub breach_text : Premise → List ℕ → List ℕ → List ℕ → List ℕ
-breach_text premise.Sealing place node kind =
+abbrev pub breach_text : Premise → List ℕ → List ℕ → List ℕ → List ℕ → List ℕ
+breach_text premise.Sealing place node kind cure =
     codes "what opens was sealed before, and what is found equal was made before; but " <> place <> codes ", " <> node
-    <> codes " opened or found equal what nobody had made under its key, of the kind " <> kind
-    <> codes "; leave out what is injected there, or, where a client's key made it, leak that client"
-breach_text premise.Draw place node kind =
+    <> codes " opened or found equal what nobody had made under its key, of the kind " <> kind <> codes "; " <> cure
+breach_text premise.Draw place node kind cure =
     codes "no draw repeats; but " <> place <> codes ", " <> node <> codes " drew what had been drawn before, of the kind " <> kind
     <> codes "; give the nodes different seeds"
 
 abbrev pub breach_of : Broken → List ℕ
-breach_of broken = breach_text broken.why (place_text broken.line) (node_text broken.node) (key_kind_word broken.kind)
+breach_of broken = breach_text broken.why (place_text broken.line) (node_text broken.node) (key_kind_word broken.kind) (cure_text broken.node)
 
 abbrev pub broken_text : Broken → List ℕ
 broken_text broken = status_text BrokenStatus <> codes ": " <> breach_of broken

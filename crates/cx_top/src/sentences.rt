@@ -1,9 +1,10 @@
 //! What a user reads of each status: what was wrong, and what to try; and what is said of an input or a run besides.
 
 ghost use Rattle.std.specs.Prelude.{◌≡◌};
-ghost use Rattle.cx_top.specs.Told.{side_text};
+ghost use Rattle.cx_top.specs.Told.{cure_by, cure_text, side_text};
 
 use crate::status::Status;
+use cx_base::NodeName;
 use cx_command_line::Help;
 use cx_help::{Detail, LineSight, Word, Wrong, WrongInJournal, WrongInKeyring};
 use cx_journal::{Broken, Premise};
@@ -162,11 +163,11 @@ impl fmt::Display for Breach<'_> {
             Premise::Sealing => write!(
                 f,
                 "what opens was sealed before, and what is found equal was made before; but {}, {} opened or found equal what \
-                nobody had made under its key, of the kind {}; leave out what is injected there, or, where a \
-                client's key made it, leak that client",
+                nobody had made under its key, of the kind {}; {}",
                 Place(broken.line),
                 broken.node,
-                broken.kind
+                broken.kind,
+                cure_text(&broken.node)
             ),
             Premise::Draw => write!(
                 f,
@@ -176,6 +177,26 @@ impl fmt::Display for Breach<'_> {
                 broken.kind
             ),
         }
+    }
+}
+
+/// What to do about what opened at this node: what opens under the keys of a leaked client is excepted at the monitor and at daemons.
+fn cure_text(node: &NodeName) -> &'static str
+    ensures { result.now ≡ cure_text node.now }
+{
+    match node {
+        NodeName::Monitor => cure_by(true),
+        NodeName::Entity(name) => cure_by(name.kind.is_daemon()),
+    }
+}
+
+fn cure_by(is_excepted: bool) -> &'static str
+    ensures { result.now ≡ cure_by is_excepted }
+{
+    if is_excepted {
+        "leave out what is injected there, or, where a client's key made it, leak that client"
+    } else {
+        "leave out what is injected there; at a client's own node nothing is excepted, whoever is leaked"
     }
 }
 

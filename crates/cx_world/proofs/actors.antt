@@ -6,3 +6,4 @@ pub mod Placed
 pub mod Reading
 pub mod Rolling
 pub mod Stepping
+pub mod Typing

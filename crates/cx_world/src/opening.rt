@@ -58,6 +58,7 @@ fn member_of(alloc: Global, entity: &Declared) -> Result<Member, AllocError>
 }
 
 /// The node of an entity, by its type.
+#[tactic(auto, using(crate::proofs::actors::Typing::client_else))]
 fn node_of(alloc: Global, entity: &Declared) -> Result<MemberNode, AllocError>
     ensures { IfOk result (λ node. NodeStands node (Some (entity_in entity.now))) }
 {

@@ -29,11 +29,15 @@ pub struct Declared {
 }
 
 impl Model for Declared {
+    ghost use Rattle.std.specs.Prelude.{IsTrue};
+    ghost use Rattle.cx_words.specs.lines.Known.{is_declarable};
     ghost use Rattle.cx_run.specs.Opening as run;
 
     ghost Value = { run.Declared };
 
     ghost view = { λ d. record { number = d.number; line = d.line; name = d.name; grants = d.grants; seed = d.seed; modes = d.modes } };
+
+    ghost invariant = { λ d. IsTrue (is_declarable d.name) };
 }
 
 impl Declared {

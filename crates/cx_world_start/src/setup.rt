@@ -7,6 +7,7 @@ ghost use Rattle.cx_keyring.specs.Entries.{are_grants, is_named};
 ghost use Rattle.cx_base.specs.declared.nodes.NodeName.TheVariants as place;
 ghost use Rattle.cx_run.specs.Opening.{changed, declared, plain_setup, principal_of, seeded, set_up_by, set_up_line};
 ghost use Rattle.cx_run.specs.Runs.{setup_of};
+ghost use Rattle.cx_words.specs.lines.Known.{is_declarable};
 ghost use Rattle.cx_world_start.specs.head.Beginning.{CanBegin, IsSchedule, MayFollow, MaySay, unhandled, with_handlers};
 
 use crate::declared::Declared;
@@ -145,6 +146,7 @@ impl Setup {
         grants: &Items<Grant>,
     ) -> Result<(), AllocError>
         requires fresh { list_any (is_named name.now) (map principal_of self.old.entities) ≡ false }
+        requires declarable { IsTrue (is_declarable name.now) }
         requires granted { IsTrue (are_grants grants.now) }
         requires few { length self.old.entities < 20000 }
         ensures { OnOk result (self.new ≡ declared line name.now grants.now self.old) }

@@ -145,7 +145,7 @@ setting_follows known setup (setting.AuthLifetime seconds) [] is spells = absurd
 setting_follows known setup (setting.AuthLifetime seconds) (w ∷ ws) is spells = spells.0.0
 setting_follows known setup (setting.Entity name grants) [] is spells = absurd spells
 setting_follows known setup (setting.Entity name grants) (w ∷ ws) is spells =
-    (unnamed name setup.entities (ap (λ (ns : List Name). is_among ns name) (sym is) ∙ spells.0.2), fit_caps known w grants ws spells.1)
+    (unnamed name setup.entities (ap (λ (ns : List Name). is_among ns name) (sym is) ∙ spells.0.2), spells.0.1, fit_caps known w grants ws spells.1)
 setting_follows known setup (setting.Seed node seed) ws is spells = tt
 setting_follows known setup (setting.Modes name modes) ws is spells = tt
 setting_follows known setup (setting.Leak name) ws is spells = tt

@@ -11,6 +11,7 @@ use Rattle.cx_lines.specs.declared.lines.Line.TheVariants as line
 use Rattle.cx_lines.specs.declared.lines.Numbered.{Numbered}
 use Rattle.cx_lines.specs.declared.settings.Setting.{Setting}
 use Rattle.cx_lines.specs.declared.settings.Setting.TheVariants as setting
+use Rattle.cx_words.specs.lines.Known.{is_declarable}
 use Rattle.cx_words.specs.lines.Values.{is_life}
 use Rattle.cx_run.specs.Opening.{Declared, Setup, principal_of}
 use Rattle.cx_schedule.specs.Files.{Lines}
@@ -35,11 +36,12 @@ pub record CanBegin (setup : Setup) : Type 0 where
   pub auth_life : IsTrue (is_life setup.auth_life)
   pub ring : IsTrue (is_ring (map principal_of setup.entities))
 
--- what a head line may say behind this: a life within its bounds, an entity of a new name with caps that one may have
+-- what a head line may say behind this: a life within its bounds, a client or a daemon of a new name with caps that one may have
 abbrev pub MaySay : Setup → Setting → Type 0
 MaySay setup (setting.Lifetime seconds) = IsTrue (is_life seconds)
 MaySay setup (setting.AuthLifetime seconds) = IsTrue (is_life seconds)
-MaySay setup (setting.Entity name grants) = (list_any (is_named name) (map principal_of setup.entities) ≡ false) × IsTrue (are_grants grants)
+MaySay setup (setting.Entity name grants) =
+    (list_any (is_named name) (map principal_of setup.entities) ≡ false) × IsTrue (is_declarable name) × IsTrue (are_grants grants)
 MaySay setup (setting.Seed node seed) = Unit {0}
 MaySay setup (setting.Modes client modes) = Unit {0}
 MaySay setup (setting.Leak client) = Unit {0}

@@ -3,6 +3,7 @@ use Rattle.cx_command_line.specs.Commands as asked
 use Rattle.cx_desk.specs.Held.{handlers_of}
 use Rattle.cx_help.specs.declared.scripts.NodeKind.TheVariants as kind
 use Rattle.cx_top.specs.declared.commands.Subcommand.TheVariants as text
+use Rattle.cx_commands.proofs.Named.{spelled-client, spelled-daemon}
 use Rattle.cx_commands.proofs.NodeEnds.{client_ended, daemon_ended, monitor_ended}
 use Rattle.cx_commands.proofs.Words.{drill_ended, drill_usage, key_usage, node_usage, spelled_drill, spelled_monitor, text_usage}
 use Rattle.cx_commands.proofs.running.invoked.Goals as goal
@@ -88,6 +89,14 @@ returns-in-Key-clause-key g c = λ is. record {
 pub monitor-requires : goal.monitor-requires
 monitor-requires g c =
     spelled_monitor (map (λ w. w.now) c.args.words.now) c.in-Monitor.command (c.requires ∙ ap (λ i. Some (asked.asked i)) c.in-Monitor.is)
+
+pub daemon-requires : goal.daemon-requires
+daemon-requires g c =
+    spelled-daemon (map (λ w. w.now) c.args.words.now) (asked.asked_daemon c.in-Daemon.command) (c.requires ∙ ap (λ i. Some (asked.asked i)) c.in-Daemon.is)
+
+pub client-requires : goal.client-requires
+client-requires g c =
+    spelled-client (map (λ w. w.now) c.args.words.now) (asked.asked_client c.in-Client.command) (c.requires ∙ ap (λ i. Some (asked.asked i)) c.in-Client.is)
 
 pub returns-in-Monitor-clause-usage : goal.returns-in-Monitor-clause-usage
 returns-in-Monitor-clause-usage g c =
