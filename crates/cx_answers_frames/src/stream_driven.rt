@@ -14,8 +14,10 @@ use std::mem;
 pub struct Sample {
     /// The plain frames behind the banner.
     plains: u32,
-    /// The sealing of the side that reads.
-    sealing: Sealing,
+    /// The secret of the connection.
+    secret: [u8; 64],
+    /// Whether the connector reads.
+    connector: bool,
     bytes: Blob,
 }
 
@@ -34,11 +36,11 @@ impl Sample {
         let Some((secret, _)) = secret.as_slice().split_first_chunk::<64>() else {
             return Ok(None);
         };
-        let sealing = Sealing::new(secret, connector);
         let bytes = Blob::of(alloc, bytes.as_slice())?;
         Ok(Some(Sample {
             plains,
-            sealing,
+            secret: *secret,
+            connector,
             bytes,
         }))
     }
@@ -153,7 +155,8 @@ fn plain(
 ) -> Result<bool, AllocError> {
     if left == 0 {
         write!(told, "received {}\n", stream.received().len())?;
-        *stage = Stage::Secure(stream.secure(sample.sealing));
+        let sealing = Sealing::new(&sample.secret, sample.connector);
+        *stage = Stage::Secure(stream.secure(sealing));
         return Ok(true);
     }
     let given = stream.turn(alloc);

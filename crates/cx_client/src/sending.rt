@@ -1,6 +1,7 @@
 //! Send: an operation in the session with a daemon.
 
-ghost use Rattle.std.specs.Prelude.{◌≡◌, [], ◌∷◌, Some, None, true, false, IfOk, IfSome, IsSome, OnErr};
+ghost use Rattle.std.specs.Prelude.{◌≡◌, [], ◌∷◌, Some, None, true, false, IfOk, IfSome, OnErr};
+ghost use Rattle.std.specs.Option.{option_map};
 ghost use Rattle.cx_node.specs.Tables.{behind, with_number};
 ghost use Rattle.cx_client_session.specs.cx_rules_session.specs.ClientRule as rule;
 ghost use Rattle.cx_client_session.specs.cx_rules_session.specs.Presenter.{is_open};
@@ -10,13 +11,16 @@ ghost use Rattle.cx_node.specs.steps.Steps.{node_of};
 ghost use Rattle.cx_node.specs.steps.Turns.{IsCarried};
 ghost use Rattle.cx_client_session.specs.cx_wire.specs.Operations.{IsWritable};
 ghost use Rattle.cx_client_events.specs.Machine.{AreHeld, IsStep};
+ghost use Rattle.cx_client_events.specs.linking.Kinds.{ClientLink};
+ghost use Rattle.cx_client.specs.calls.Ahead.{IsAheadAt, IsStanding, link_ahead, row_on};
 ghost use Rattle.cx_client.specs.calls.Sending.{IsSentRow, numbered, with_pushed};
 
 use cx_base::{Duplicate, EntityName, Items, Operation, Reading};
-use cx_client_events::{CallLink, HeldSession, Link, Own, first_call, of_daemon, refuses};
+use cx_client_events::{CallLink, HeldSession, Kind, Link, Own, first_call, refuses};
+use cx_client_session::go_on;
 use cx_dice::Draw;
 use cx_journal::{Entry, Reason, Sent};
-use cx_node::{Carried, Links, Moment, Numbered, Row, carried_out, enters};
+use cx_node::{Carried, Links, Moment, Numbered, Row, SealedAhead, carried_out, enters};
 use cx_session::QueueFault;
 use cx_steps::Effects;
 use std::alloc::{AllocError, Global};
@@ -172,7 +176,7 @@ fn waits(
     Ok(out)
 }
 
-// The row by which it is sent on a link that is open, behind what is entered first.
+// The row by which it is sent on a link that is open, behind what is entered first: by what that goes on by behind the message, which is sealed ahead on it.
 fn sent_row(
     alloc: Global,
     own: &Own,
@@ -181,16 +185,14 @@ fn sent_row(
     number: u64,
     operation: &Operation,
     sent: Entry,
-) -> Result<Row<Link>, AllocError>
+) -> Result<Row<SealedAhead>, AllocError>
     requires number { link.now.number ≡ at.now.number }
     requires open { is_open link.now.stage ≡ true }
     requires writable { IsWritable operation.now }
-    ensures row { IfOk result (IsSentRow own.now.client at.now.reading at.now.draw.now.bytes sent (number, operation.now) link.now) }
-    ensures number { IfOk result (λ row. IfSome row.link (λ link. link.number ≡ at.now.number)) }
+    ensures { IfOk result (IsSentRow own.now.client at.now.reading at.now.draw.now.bytes sent (number, operation.now) link.now) }
 {
     let row = cx_client_session::sends(alloc, own.mon_client(), at, link, number, operation)?;
-    let made = of_daemon(alloc, row)?;
-    enters_first(alloc, sent, made)
+    enters_first(alloc, sent, row)
 }
 
 fn enters_first<L: Drop>(alloc: Global, first: Entry, row: Row<L>) -> Result<Row<L>, AllocError>
@@ -204,21 +206,22 @@ fn enters_first<L: Drop>(alloc: Global, first: Entry, row: Row<L>) -> Result<Row
     Ok(row)
 }
 
-// The row is carried out, and the operation waits: the link that goes on takes the place of the one that it was, for which no memory is wanted.
+// The row is carried out, and the operation waits: then the link goes on behind the message that was sealed ahead on it, or is shut, for which no memory is
+// wanted.
 fn goes_out(
     alloc: Global,
     own: &mut Own,
     links: &mut Links<Link>,
     number: u32,
-    row: Row<Link>,
+    row: Row<SealedAhead>,
     daemon: &EntityName,
     operation: Operation,
 ) -> Result<Effects, AllocError>
     requires writable { IsWritable operation }
     requires room { links.old.room ≡ None }
-    requires lives { IsSome (with_number (λ link. link.number) number links.old.links) }
-    requires same { IfSome row.link (λ link. link.number ≡ number) }
-    ensures carried { IfOk result (λ out. IsCarried (λ link. link.number) number false row links.old.links links.new.links out) }
+    requires ahead { IfSome row.link (IsStanding number links.old.links) }
+    ensures carried { (link : ClientLink) → with_number (λ l. l.number) number links.old.links ≡ Some link
+        → IfOk result (IsCarried (λ l. l.number) number false (row_on link row) links.old.links links.new.links) }
     ensures own { IfOk result (λ _. own.new.client ≡ with_pushed daemon.now operation own.old.client) }
     ensures err { OnErr result (own.new.client ≡ own.old.client) }
     ensures links { OnErr result (links.new ≡ links.old) }
@@ -226,20 +229,41 @@ fn goes_out(
 {
     let Carried { link, out } = carried_out(alloc, number, false, row)?;
     own.push(alloc, daemon, operation)?;
-    replaces(links, number, link);
+    goes_on(links, number, link);
     Ok(out)
 }
 
-// The link of this number goes on so, or is shut.
-fn replaces(links: &mut Links<Link>, number: u32, link: Option<Link>)
+// The link of this number goes on behind what was sealed ahead on it, or is shut. It wants no memory.
+fn goes_on(links: &mut Links<Link>, number: u32, ahead: Option<SealedAhead>)
     requires room { links.old.room ≡ None }
-    requires lives { IsSome (with_number (λ link. link.number) number links.old.links) }
-    requires same { IfSome link (λ link. link.number ≡ number) }
-    ensures links { links.new.links ≡ behind (λ link. link.number) number link links.old.links }
+    requires ahead { IfSome ahead (IsStanding number links.old.links) }
+    ensures links { (link : ClientLink) → with_number (λ l. l.number) number links.old.links ≡ Some link
+        → links.new.links ≡ behind (λ l. l.number) number (option_map (link_ahead link) ahead) links.old.links }
     ensures room { links.new.room ≡ None }
 {
+    let Some(ahead) = ahead else {
+        links.remove(number);
+        return;
+    };
     match links.take(number) {
-        Some(_) => links.settle(number, link),
+        Some(link) => links.settle(number, Some(behind_sealed(link, ahead))),
         None => unreachable!(),
+    }
+}
+
+// A link to a daemon behind the message that was sealed ahead on it.
+fn behind_sealed(link: Link, ahead: SealedAhead) -> Link
+    requires { IsAheadAt link.stage ahead }
+    ensures { result ≡ link_ahead link ahead }
+{
+    match link.kind {
+        Kind::Daemon(call) => {
+            let mut call = call;
+            go_on(call.as_mut(), ahead);
+            Link {
+                kind: Kind::Daemon(call),
+            }
+        }
+        Kind::Monitor(_) => unreachable!(),
     }
 }

@@ -3,6 +3,7 @@
 ghost use Rattle.std.specs.Prelude.{ℕ, ◌≡◌, ◌<◌, IfSome};
 ghost use Rattle.cx_outside.specs.linking.Events.{IsWithin};
 
+use crate::crowd::{count_unshut, crowding, first_shut, oldest_stranger};
 use crate::limits::MOST;
 use crate::table::{LISTENER, Table, address_of};
 use cx_base::Addr;
@@ -15,7 +16,7 @@ use std::net::{IpAddr, Net};
 use std::random::RandomSource;
 use std::time::{Clock, Instant};
 
-// How many links a node takes: it refuses further ones. Where so many stand, strangers go for newcomers.
+// How many links a node takes: it refuses further ones. Where so many stand that it didn't shut, strangers go for newcomers.
 const CROWD: usize = 1_024;
 
 // How many places are left to links that the node opens.
@@ -27,10 +28,10 @@ const TURNED_AWAY: usize = 64;
 // What the system answers where the process has opened as many files as it may.
 const TOO_MANY_FILES: i32 = 24;
 
-// Who goes for a newcomer: a stranger at a place, the newcomer itself, or nobody.
+// Who goes for a newcomer: the link at a place, the newcomer itself, or nobody.
 #[derive(Clone, Copy)]
 enum Displaced {
-    Stranger(usize),
+    Link(usize),
     Newcomer,
     Nobody,
 }
@@ -48,7 +49,7 @@ impl<R: Net + Eprint + Clock + RandomSource + Drop> Table<R> {
         Ok(())
     }
 
-    /// A link that a peer opened. Where many stand, a stranger goes first, and the newcomer is taken behind that. A peer that is gone
+    /// A link that a peer opened. Where many stand, another one goes first, and the newcomer is taken behind that. A peer that is gone
     /// again, or for which the system has no room now, is no fault.
     pub fn accept(&mut self, now: Instant) -> Option<LinkEvent>
         ensures { IfSome result (λ event. (room : ℕ) → IsWithin event room) }
@@ -58,7 +59,12 @@ impl<R: Net + Eprint + Clock + RandomSource + Drop> Table<R> {
                 return None;
             }
             match self.displaced(now) {
-                Displaced::Stranger(place) => return self.close(place, now),
+                Displaced::Link(place) => {
+                    let gone = self.close(place, now);
+                    if gone.is_some() {
+                        return gone;
+                    }
+                }
                 Displaced::Newcomer => self.newcomer = None,
                 Displaced::Nobody => return self.let_in(now),
             }
@@ -83,14 +89,14 @@ impl<R: Net + Eprint + Clock + RandomSource + Drop> Table<R> {
         }
     }
 
-    // Whether a peer came that can be taken in, now or once a stranger went.
+    // Whether a peer came that can be taken in, now or once another one went.
     fn meets(&mut self) -> bool {
         if !self.may_accept {
             return false;
         }
         if self.is_full() {
             self.tell_limit();
-            if self.oldest_stranger(None).is_none() {
+            if first_shut(&self.places).is_none() && oldest_stranger(&self.places, None).is_none() {
                 return false;
             }
         }
@@ -109,7 +115,7 @@ impl<R: Net + Eprint + Clock + RandomSource + Drop> Table<R> {
     fn meets_none(&mut self, error: &io::Error) {
         self.may_accept = error.kind() != ErrorKind::WouldBlock;
         if error.raw_os_error() == Some(TOO_MANY_FILES) {
-            self.most = self.most.min(self.count().saturating_sub(OWN));
+            self.most = self.most.min(self.standing.saturating_sub(OWN));
             self.tell_limit();
         }
     }
@@ -127,41 +133,41 @@ impl<R: Net + Eprint + Clock + RandomSource + Drop> Table<R> {
 
     // Whether no further link of a peer may stand.
     fn is_full(&self) -> bool {
-        self.count().saturating_add(OWN) >= self.most
+        self.standing.saturating_add(OWN) >= self.most
     }
 
-    // Who goes for the newcomer, where many stand: the stranger that stands longest, at most once in 50 ms for newcomers of one address;
-    // in between the one of its own address that does, or, where none stands, the newcomer.
+    // Who goes for the newcomer: where no place is left the link that was shut first, and where none is or as many stand that are not
+    // shut as the node takes, a stranger.
     fn displaced(&mut self, now: Instant) -> Displaced {
-        if !self.is_full() && self.count() < CROWD {
-            return Displaced::Nobody;
+        if self.is_full() {
+            match first_shut(&self.places) {
+                Some(place) => Displaced::Link(place),
+                None => self.displaced_stranger(now),
+            }
+        } else if self.standing < CROWD || count_unshut(&self.places) < CROWD {
+            Displaced::Nobody
+        } else {
+            self.displaced_stranger(now)
         }
-        let (Some((_, peer)), Some(oldest)) = (&self.newcomer, self.oldest_stranger(None)) else {
+    }
+
+    // The stranger that goes for the newcomer: of an address that has more than half of them the one that stands longest. Where there is
+    // no such address, the one of all that does, at most once in 50 ms for newcomers of one address; in between the one of its own
+    // address that does, or, where none stands, the newcomer.
+    fn displaced_stranger(&mut self, now: Instant) -> Displaced {
+        let (Some((_, peer)), Some(oldest)) = (&self.newcomer, oldest_stranger(&self.places, None))
+        else {
             return Displaced::Nobody;
         };
         let peer = *peer;
-        if self.displacing.takes(peer, now) {
-            return Displaced::Stranger(oldest);
+        let crowding = crowding(&self.places);
+        if crowding.is_none() && self.displacing.takes(peer, now) {
+            return Displaced::Link(oldest);
         }
-        match self.oldest_stranger(Some(peer)) {
-            Some(own) => Displaced::Stranger(own),
+        match oldest_stranger(&self.places, Some(crowding.unwrap_or(peer))) {
+            Some(place) => Displaced::Link(place),
             None => Displaced::Newcomer,
         }
-    }
-
-    // The place of the stranger that was accepted first of all that stand, or of those of one address.
-    fn oldest_stranger(&self, of: Option<IpAddr>) -> Option<usize> {
-        let mut oldest: Option<(usize, Instant)> = None;
-        for (place, slot) in self.places.iter().enumerate() {
-            if let Some(socket) = slot {
-                let is_older = oldest.is_none_or(|(_, since)| socket.since < since);
-                let is_theirs = of.is_none() || socket.peer == of;
-                if socket.is_stranger() && is_theirs && is_older {
-                    oldest = Some((place, socket.since));
-                }
-            }
-        }
-        oldest.map(|(place, _)| place)
     }
 
     // Puts the link of a peer into a free place.

@@ -3,6 +3,7 @@
 
 mod arrivals;
 mod clock;
+mod crowd;
 mod dials;
 mod dice;
 mod displacing;

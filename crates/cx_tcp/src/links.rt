@@ -17,9 +17,9 @@ use std::time::Clock;
 /// where the node listens nowhere, of 1 ms at first, doubled up to 50. Links are served in turn.
 ///
 /// A dial to an address to which the last one failed waits: the link is opened at once and takes what is sent, the connect is made
-/// when it is due, and where it fails the link is gone. A stranger is gone 10 s after it was accepted; where 1,024 links stand, or all
-/// places are taken, the one that stands longest goes for a newcomer, at most once in 50 ms for those of one address, and else one of
-/// theirs. A link on which nothing came for 30 s while the node awaits an answer there is gone; one that is known never is for its
+/// when it is due, and where it fails the link is gone. A stranger is gone 10 s after it was accepted; where 1,024 links stand that
+/// weren't shut, or all places are taken, one goes for a newcomer: of an address that has more than half of them, or else of all the one
+/// that stands longest, at most once in 50 ms for newcomers of one address, and in between one of theirs. A link on which nothing came for 30 s while the node awaits an answer there is gone; one that is known never is for its
 /// time. So does one for which more than 4 MiB wait, and, where more than 256 MiB wait in all, that for which the most do. A link that
 /// is shut still sends what waits, for at most 2 s. While all places are taken nothing is accepted, and peers wait with the system. What the system refuses is printed on
 /// standard error, and at which address the node listens.

@@ -19,13 +19,13 @@ const MOST: usize = 256 << 20;
 impl<R: Net + Eprint + Clock + RandomSource + Drop> Table<R> {
     /// A link on which bytes can't be sent is closed at once. Where too many wait on all links, the one for which the most wait goes.
     pub fn send(&mut self, link: u32, bytes: &[u8]) -> Result<(), Failed> {
-        let slot = self.slot_of(link).ok_or(Failed)?;
-        let (sent, waits) = match slot {
-            Some(socket) => (socket.send(bytes), socket.waits()),
-            None => (Err(Unsent::Ended), false),
+        let place = self.place_of(link).ok_or(Failed)?;
+        let (sent, waits) = match self.places.get_mut(place) {
+            Some(Some(socket)) => (socket.send(bytes), socket.waits()),
+            _ => (Err(Unsent::Ended), false),
         };
         if let Err(why) = sent {
-            *slot = None;
+            let _ = self.take_away(place);
             if why == Unsent::OutOfMemory {
                 self.drops(&io::Error::from(AllocError));
             }
@@ -42,16 +42,17 @@ impl<R: Net + Eprint + Clock + RandomSource + Drop> Table<R> {
             }
             let most = most_load(&self.places);
             let heaviest = place_of(&self.places, most).ok_or(Failed)?;
-            let slot = self.places.get_mut(heaviest).ok_or(Failed)?;
-            match slot {
-                Some(socket) if socket.number != link && !socket.is_closing() => {
+            match self.places.get_mut(heaviest) {
+                Some(Some(socket)) if socket.number != link && !socket.is_closing() => {
                     socket.give_up(self.alloc);
                 }
-                Some(socket) if socket.number == link => {
-                    *slot = None;
+                Some(Some(socket)) if socket.number == link => {
+                    let _ = self.take_away(heaviest);
                     return Err(Failed);
                 }
-                _ => *slot = None,
+                _ => {
+                    let _ = self.take_away(heaviest);
+                }
             }
         }
         Ok(())
@@ -60,10 +61,13 @@ impl<R: Net + Eprint + Clock + RandomSource + Drop> Table<R> {
     /// Sends what waits, and then tells the peer of the end. Where the connect is still under way, nothing was sent.
     pub fn shut(&mut self, link: u32) {
         let now = Instant::now(&self.rt);
-        if let Some(slot) = self.slot_of(link) {
-            match (slot.as_mut(), now) {
-                (Some(socket), Ok(now)) if socket.is_connected() => socket.shut(now),
-                _ => *slot = None,
+        let Some(place) = self.place_of(link) else {
+            return;
+        };
+        match (self.places.get_mut(place), now) {
+            (Some(Some(socket)), Ok(now)) if socket.is_connected() => socket.shut(now),
+            _ => {
+                let _ = self.take_away(place);
             }
         }
     }
@@ -80,10 +84,10 @@ impl<R: Net + Eprint + Clock + RandomSource + Drop> Table<R> {
     // Sends on what waits, and answers whether anything still does.
     fn send_on(&mut self) -> bool {
         let mut waits = false;
-        for slot in &mut self.places {
-            if let Some(socket) = slot {
+        for place in 0..self.places.len() {
+            if let Some(Some(socket)) = self.places.get_mut(place) {
                 if socket.send_on().is_err() {
-                    *slot = None;
+                    let _ = self.take_away(place);
                 } else if socket.waits() {
                     waits = true;
                 }

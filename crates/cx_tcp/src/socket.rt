@@ -62,8 +62,8 @@ impl From<AllocError> for Unsent {
 
 /// A link: its stream, which one whose dial waits hasn't yet, its number, the address to which the node opened it, or that of the peer
 /// which did, how far it is and since when (of a dial that waits: until when), how the node regards it, since when nothing came (or
-/// nothing was awaited), whether anything ever came, whether the system told that it may be read or written, and what waits to be
-/// sent.
+/// nothing was awaited), whether anything ever came, whether the system told that it may be read or written, whether the peer was told
+/// of the end, and what waits to be sent.
 #[derive(Drop)]
 pub struct Socket {
     stream: Option<TcpStream>,
@@ -77,6 +77,7 @@ pub struct Socket {
     is_heard: bool,
     may_read: bool,
     may_write: bool,
+    is_end_told: bool,
     waiting: BytesMut,
 }
 
@@ -138,6 +139,7 @@ impl Socket {
             is_heard: false,
             may_read: false,
             may_write: false,
+            is_end_told: false,
             waiting: BytesMut::new(alloc),
         }
     }
@@ -317,7 +319,8 @@ impl Socket {
         }
     }
 
-    /// Sends on of what waits. Where the link was shut and nothing waits any more, the peer is told of the end.
+    /// Sends on of what waits. Where the link was shut and nothing waits any more, the peer is told of the end, once: the system tells of a
+    /// stream whose end was told as of one that may be written.
     pub fn send_on(&mut self) -> io::Result<()> {
         if !self.is_connected() {
             return Ok(());
@@ -327,7 +330,8 @@ impl Socket {
         };
         let sent = write_front(stream, &self.waiting)?;
         self.waiting.advance(sent);
-        if self.stage == Stage::Closing && self.waiting.is_empty() {
+        if self.stage == Stage::Closing && self.waiting.is_empty() && !self.is_end_told {
+            self.is_end_told = true;
             return stream.shutdown(Shutdown::Write);
         }
         Ok(())

@@ -33,8 +33,8 @@ const FIRST_WAIT: u64 = 1;
 // How many milliseconds lie between two looks for links that are overdue.
 const SWEEP: u64 = 250;
 
-/// All links of a node by their places, of which there are as many as there ever were links at a time, and at most `most`; the
-/// listener, and a peer that came and for which a stranger went. The place at which the last look ended goes round.
+/// All links of a node by their places, of which there are as many as there ever were links at a time, and at most `most`, and how many
+/// stand; the listener, and a peer that came and for which a stranger went. The place at which the last look ended goes round.
 #[derive(Drop)]
 pub struct Table<R> {
     pub rt: R,
@@ -46,11 +46,13 @@ pub struct Table<R> {
     pub newcomer: Option<(TcpStream, IpAddr)>,
     pub displacing: Displacing,
     pub places: Vec<Option<Socket>>,
+    pub standing: usize,
     pub most: usize,
     pub is_limit_told: bool,
     dials: Dials,
     dropped: u64,
     last_number: u32,
+    is_turn_of_newcomers: bool,
     place: usize,
     wait: u64,
     swept: Option<Instant>,
@@ -68,11 +70,13 @@ impl<R: Net + Eprint + Clock + RandomSource + Drop> Table<R> {
             newcomer: None,
             displacing: Displacing::new(alloc)?,
             places: Vec::with_capacity(alloc, limits::MOST)?,
+            standing: 0,
             most: limits::places_within(limits::most_files()),
             is_limit_told: false,
             dials: Dials::new(alloc)?,
             dropped: 0,
             last_number: 0,
+            is_turn_of_newcomers: true,
             place: 0,
             wait: FIRST_WAIT,
             swept: None,
@@ -180,36 +184,47 @@ impl<R: Net + Eprint + Clock + RandomSource + Drop> Table<R> {
         }
     }
 
-    /// The place of the link of this number, which isn't shut.
-    pub fn slot_of(&mut self, link: u32) -> Option<&mut Option<Socket>> {
-        for slot in &mut self.places {
-            if let Some(socket) = slot {
-                if socket.number == link && !socket.is_closing() {
-                    return Some(slot);
-                }
-            }
+    /// The place of the link of this number, which isn't shut. Mostly it is the one at which something came last.
+    pub fn place_of(&self, link: u32) -> Option<usize> {
+        if self.stands_at(self.place, link) {
+            return Some(self.place);
         }
-        None
+        (0..self.places.len()).find(|place| self.stands_at(*place, link))
+    }
+
+    fn stands_at(&self, place: usize, link: u32) -> bool {
+        match self.places.get(place) {
+            Some(Some(socket)) => socket.number == link && !socket.is_closing(),
+            _ => false,
+        }
+    }
+
+    /// The link of this number, which isn't shut.
+    pub fn socket_of(&mut self, link: u32) -> Option<&mut Socket> {
+        let place = self.place_of(link)?;
+        self.places.get_mut(place)?.as_mut()
+    }
+
+    /// Takes the link at this place away.
+    pub fn take_away(&mut self, place: usize) -> Option<Socket> {
+        let socket = self.places.get_mut(place)?.take()?;
+        self.standing = self.standing.saturating_sub(1);
+        Some(socket)
     }
 
     /// The node regards a link so from now on.
     pub fn regard(&mut self, link: u32, regard: Regard) {
         let now = Instant::now(&self.rt);
-        if let (Some(Some(socket)), Ok(now)) = (self.slot_of(link), now) {
+        if let (Some(socket), Ok(now)) = (self.socket_of(link), now) {
             socket.regards(regard, now);
         }
-    }
-
-    /// How many links stand.
-    pub fn count(&self) -> usize {
-        self.places.iter().filter(|slot| slot.is_some()).count()
     }
 
     /// A place without a link, which may be a new one behind the others, and the number of the next link; an error where as many stand as
     /// may.
     pub fn free_place(&self) -> io::Result<(usize, u32)> {
         let full = || io::Error::other("all places for links are taken");
-        if self.count() >= self.most {
+        if self.standing >= self.most {
             return Err(full());
         }
         let number = self.last_number.checked_add(1).ok_or_else(full)?;
@@ -228,10 +243,12 @@ impl<R: Net + Eprint + Clock + RandomSource + Drop> Table<R> {
     /// Puts a new link into its place.
     pub fn put(&mut self, place: usize, socket: Socket) -> io::Result<u32> {
         let number = socket.number;
+        let _ = self.take_away(place);
         match self.places.get_mut(place) {
             Some(slot) => *slot = Some(socket),
             None => self.places.push(Some(socket))?,
         }
+        self.standing = self.standing.saturating_add(1);
         self.last_number = number;
         Ok(number)
     }
@@ -241,7 +258,7 @@ impl<R: Net + Eprint + Clock + RandomSource + Drop> Table<R> {
     pub fn close(&mut self, place: usize, now: Instant) -> Option<LinkEvent>
         ensures { IfSome result (λ event. (room : ℕ) → IsWithin event room) }
     {
-        let socket = self.places.get_mut(place)?.take()?;
+        let socket = self.take_away(place)?;
         if socket.is_closing() {
             return None;
         }
@@ -269,7 +286,8 @@ impl<R: Net + Eprint + Clock + RandomSource + Drop> Table<R> {
         Ok(())
     }
 
-    // The next of what is there: the places are served in turn, the listener among them.
+    // The next of what is there. Peers that come and links are served by turns, so that neither keeps the other waiting; a newcomer for
+    // which a stranger went is taken at once.
     fn look(&mut self, into: &mut [u8]) -> io::Result<Option<LinkEvent>>
         ensures bound { IfOk result (λ event. IfSome event (λ event. IsWithin event (length into.old))) }
         ensures room { length into.new ≡ length into.old }
@@ -278,19 +296,35 @@ impl<R: Net + Eprint + Clock + RandomSource + Drop> Table<R> {
         if let Some(gone) = self.sweep(now) {
             return Ok(Some(gone));
         }
-        let count = self.places.len();
-        for _ in 0..=count {
-            self.place = if self.place < count {
-                self.place + 1
-            } else {
-                0
-            };
-            let event = self.serve(into, now);
-            if event.is_some() {
-                return Ok(event);
+        let is_turn_of_newcomers = self.is_turn_of_newcomers || self.newcomer.is_some();
+        self.is_turn_of_newcomers = !is_turn_of_newcomers;
+        if is_turn_of_newcomers {
+            if let Some(event) = self.accept(now) {
+                return Ok(Some(event));
             }
         }
-        Ok(None)
+        let event = self.go_round(into, now);
+        if event.is_some() || is_turn_of_newcomers {
+            return Ok(event);
+        }
+        Ok(self.accept(now))
+    }
+
+    // The next of what is there on links, which are served in turn.
+    fn go_round(&mut self, into: &mut [u8], now: Instant) -> Option<LinkEvent>
+        ensures bound { IfSome result (λ event. IsWithin event (length into.old)) }
+        ensures room { length into.new ≡ length into.old }
+    {
+        let count = self.places.len();
+        for _ in 0..count {
+            let next = self.place.saturating_add(1);
+            self.place = if next < count { next } else { 0 };
+            let event = self.serve(into, now);
+            if event.is_some() {
+                return event;
+            }
+        }
+        None
     }
 
     // What is there at the place of this look.
@@ -299,9 +333,6 @@ impl<R: Net + Eprint + Clock + RandomSource + Drop> Table<R> {
         ensures room { length into.new ≡ length into.old }
     {
         let place = self.place;
-        if place == self.places.len() {
-            return self.accept(now);
-        }
         let socket = self.places.get_mut(place)?.as_mut()?;
         if let Some(to) = socket.due(now) {
             return self.redial(place, &to, now);

@@ -1,12 +1,12 @@
 -- An operation that is sent, over plain values: the step is that of the rules, abridged, and the links are held behind it as before.
-use Rattle.std.proofs.Common.{◌≡◌, ◌∙◌, ℕ, ◌==◌, Bool, true, false, cond, List, [], ◌∷◌, Option, Some, None, Result, Ok, Err, IfOk, arith, refl, sym, ap, subst}
-use Rattle.std.specs.Prelude.{IfSome, IsSome, OnErr}
+use Rattle.std.proofs.Common.{◌≡◌, ◌∙◌, ℕ, ◌==◌, ◌+◌, ◌≤◌, Bool, true, false, cond, List, [], ◌∷◌, Option, Some, None, Result, Ok, Err, IfOk, arith, refl, sym, ap, subst}
+use Rattle.std.specs.Prelude.{IfSome, OnErr}
 use Rattle.std.specs.Option.{option_map}
-use Rattle.std.proofs.lemmas.Bool.Decides.{nat_tests}
+use Rattle.std.proofs.lemmas.Bool.{eq-eqb, ne_eqb}
 use Rattle.cx_base.specs.Names.{Name, same_name}
 use Rattle.cx_base.proofs.Names.{same_name_is}
 use Rattle.cx_base.specs.declared.operations.Operation.{Operation}
-use Rattle.cx_client_session.specs.operations.Frames.{IsSent, kept_open}
+use Rattle.cx_client_session.specs.operations.Frames.{IsAheadOn, IsSent, behind_sent, kept_open, row_ahead}
 use Rattle.cx_client_session.specs.calling.Sent.{IsRowAt}
 use Rattle.cx_journal.specs.declared.entries.Entry.{Entry}
 use Rattle.cx_journal.specs.declared.faults.BytesFault.{BytesFault}
@@ -21,6 +21,7 @@ use Rattle.cx_node.specs.cx_rules.specs.Holdings.{MonClient}
 use Rattle.cx_node.specs.cx_rules.specs.Links.{Link}
 use Rattle.cx_node.specs.cx_rules.specs.Rows.{Outcome, Row, arrival, secure_sent, sends_secure}
 use Rattle.cx_node.specs.cx_rules.specs.Secured.{SealedFrame, Secured, secure_frame}
+use Rattle.cx_node.specs.cx_rules.specs.cx_secure.specs.declared.sealing.SealedAhead.{SealedAhead}
 use Rattle.cx_client_session.specs.cx_rules_session.specs.ClientRule.{ClientStage, ToDaemon, WholeClient, WholeClientNode, call_open, call_or, first_call, me, pushes, sends, sends_in, sends_on, sent_entry}
 use Rattle.cx_client_session.specs.cx_rules_session.specs.Forgets.{abridged_call_link, abridged_client_link}
 use Rattle.cx_client_session.specs.cx_rules_session.specs.Kinds.{entered_before, of_kind, row_of_kind}
@@ -33,6 +34,7 @@ use Rattle.cx_session.specs.Queue.{push_reply, pushed}
 use Rattle.cx_session.specs.declared.outbox.QueueFault.{QueueFault}
 use Rattle.cx_steps.specs.declared.effects.Effects.{Effects}
 use Rattle.cx_node.specs.steps.Making.{row_due}
+use Rattle.cx_node.specs.steps.Stages.{AreRising}
 use Rattle.cx_node.specs.steps.Steps.{node_of}
 use Rattle.cx_node.specs.steps.Turns.{IsCarried}
 use Rattle.cx_node.specs.declared.moments.Moment.{Moment}
@@ -43,6 +45,7 @@ use Rattle.cx_client_events.proofs.linking.Calling.{opened_keeps}
 use Rattle.cx_client_events.proofs.linking.OfKinds.{daemon_follows}
 use Rattle.cx_client_events.specs.Machine.{AreHeld, ClientRow, IsStep}
 use Rattle.cx_client_events.proofs.Kept.{found_passes}
+use Rattle.cx_client.specs.calls.Ahead.{IsAheadAt, IsStanding, link_ahead, row_on}
 use Rattle.cx_client.specs.calls.Sending.{IsSentRow, numbered, numbered_in, operation_sent, with_pushed}
 
 -- ---- what an open link keeps
@@ -110,9 +113,14 @@ module _ (own : WholeClient) (all : List ClientLink) (daemon : Name) (operation 
 
 -- ---- the row by which it is sent
 
-some_number : (number : ℕ) (o : Option CallLink) → IfSome o (λ l. l.number ≡ number) → IfSome (option_map (of_kind ToDaemon) o) (λ (l : ClientLink). l.number ≡ number)
-some_number number None n = tt
-some_number number (Some l) n = n
+-- by what the link goes on by, it is one of the client or of the call alike
+on_link : (link : CallLink) (o : Option SealedAhead) → option_map (link_ahead (of_kind ToDaemon link)) o ≡ option_map (of_kind ToDaemon) (option_map (behind_sent link) o)
+on_link link None = refl
+on_link link (Some a) = refl
+
+ahead_as : (link : CallLink) (o : Option SealedAhead) → IfSome o (IsAheadOn link) → IfSome o (IsAheadAt (ToDaemon link.stage))
+ahead_as link None ahead = tt
+ahead_as link (Some a) ahead = ahead
 
 module _ (at : Moment) (link : CallLink) (ask : ℕ × Operation) where
   -- the same row as one of the client
@@ -136,60 +144,80 @@ module _ (at : Moment) (link : CallLink) (ask : ℕ × Operation) where
       let behind : ClientRow → ClientRow = λ r. entered_before sent r in
       ap behind (whole ∙ ap due (lifted new s callee cookie (secure_frame s.keys (operation_message ask))))
 
-  kept_number : (mon_client : MonClient) (row : Made CallLink) → IsSent mon_client at link ask row → (o : Option Kept) → kept_open link.stage ≡ o → is_open link.stage ≡ true
-      → IfSome row.link (λ l. l.number ≡ at.number)
-  kept_number mon_client row is None keeps opened = absurd (keeps_some link.stage opened keeps)
-  kept_number mon_client row is (Some (s, (callee, cookie))) keeps opened = let on = rw keeps at (is None) in on.number_is
+  -- the same by what the link goes on by
+  row_ahead_by : (new : WholeClient) (row : Made SealedAhead) (sent : Entry) (s : Secured) (callee : Callee) (cookie : ℕ)
+      → IsRowAt (caller new.mon_client None) at link (sends_on_it s callee cookie) (row_ahead link row)
+      → as_row new (row_on (of_kind ToDaemon link) (record row { entries = sent ∷ row.entries }))
+      ≡ row_due abridged_client_link (entered_before sent (operation_sent new at.reading at.draw.now.bytes ask link s callee cookie))
+  row_ahead_by new row sent s callee cookie is =
+      let with_link : Option ClientLink → Row WholeClient ClientStage =
+      λ l. record { own = new; link = l; sends = row.sends; save = row.save; entries = sent ∷ row.entries; seals = row.seals }
+      in
+      ap with_link (on_link link row.link) ∙ row_by new (row_ahead link row) sent s callee cookie is
 
-  module _ {E : Type 0} (own : WholeClient) (mon_client : MonClient) (row : Made CallLink) (whole : Made ClientLink) (sent : Entry) (a : mon_client ≡ own.mon_client) (is : IsSent mon_client at link ask row)
-      (w : whole ≡ made_of_kind ToDaemon row) where
-    pub row_sent : (r : Result (Made ClientLink) E) → IfOk r (λ behind. behind ≡ record whole { entries = sent ∷ whole.entries })
+  module _ {E : Type 0} (own : WholeClient) (mon_client : MonClient) (row : Made SealedAhead) (sent : Entry) (a : mon_client ≡ own.mon_client) (is : IsSent mon_client at link ask row) where
+    pub row_sent : (r : Result (Made SealedAhead) E) → IfOk r (λ behind. behind ≡ record row { entries = sent ∷ row.entries })
         → IfOk r (IsSentRow own at.reading at.draw.now.bytes sent ask link)
     row_sent (Err e) b = tt
-    row_sent (Ok behind) b = λ new s callee cookie same keeps.
-        let first : Made ClientLink → Made ClientLink = λ m. record m { entries = sent ∷ m.entries } in
-        let made : Made ClientLink → Row WholeClient ClientStage = λ m. as_row new m in
-        let IsMade : MonClient → Type 0 = λ x. IsRowAt (caller x None) at link (sends_on_it s callee cookie) row in
-        let on = rw keeps at (is None) in
-        ap made (b ∙ ap first w) ∙ row_by new row sent s callee cookie (subst IsMade (a ∙ sym same) on)
-
-    pub row_number : (r : Result (Made ClientLink) E) → is_open link.stage ≡ true → IfOk r (λ behind. behind ≡ record whole { entries = sent ∷ whole.entries })
-        → IfOk r (λ behind. IfSome behind.link (λ (l : ClientLink). l.number ≡ at.number))
-    row_number (Err e) opened b = tt
-    row_number (Ok behind) opened b =
-        let link_of : Made ClientLink → Option ClientLink = λ m. m.link in
-        let HasOne : Option ClientLink → Type 0 = λ o. IfSome o (λ (l : ClientLink). l.number ≡ at.number) in
-        subst HasOne (sym (ap link_of b ∙ ap link_of w)) (some_number at.number row.link (kept_number mon_client row is (kept_open link.stage) refl opened))
+    row_sent (Ok behind) b =
+        let made : WholeClient → Made SealedAhead → Row WholeClient ClientStage = λ new m. as_row new (row_on (of_kind ToDaemon link) m) in
+        let IsAhead : Made SealedAhead → Type 0 = λ m. IfSome m.link (IsAheadAt (ToDaemon link.stage)) in
+        let entered : Made SealedAhead = record row { entries = sent ∷ row.entries } in
+        let ahead : IsAhead entered = ahead_as link row.link is.1 in (
+          (λ new s callee cookie same keeps.
+              let IsMade : MonClient → Type 0 = λ x. IsRowAt (caller x None) at link (sends_on_it s callee cookie) (row_ahead link row) in
+              let on = rw keeps at (is.0 None) in
+              ap (made new) b ∙ row_ahead_by new row sent s callee cookie (subst IsMade (a ∙ sym same) on)),
+          subst IsAhead (sym b) ahead,
+        )
 
 -- ---- the link on which it is sent
 
--- it lives
-first_lives : (daemon : Name) (links : List ClientLink) (l : ClientLink) (k : Kept) → first_call daemon links ≡ Some (l, k) → IsSome (with_number (λ (x : ClientLink). x.number) l.number links)
-first_lives daemon [] l k e = absurd (cc)
-first_lives daemon (x ∷ xs) l k e = by_kept (call_open daemon x.stage) e (λ f. first_lives daemon xs l k f)
+-- it is found by its number, where the numbers rise
+abbrev IsThere : ℕ → List ClientLink → ClientLink → Type 0
+IsThere low links l = (low ≤ l.number) × (with_number (λ (x : ClientLink). x.number) l.number links ≡ Some l)
+
+first_found : (daemon : Name) (low : ℕ) (links : List ClientLink) (l : ClientLink) (k : Kept) → AreRising low links → first_call daemon links ≡ Some (l, k) → IsThere low links l
+first_found daemon low [] l k rising e = absurd (cc)
+first_found daemon low (x ∷ xs) l k rising e = by_kept (call_open daemon x.stage) e (first_found daemon (x.number + 1) xs l k rising.1)
   where
-    by_number : (t : Bool) → IsSome (with_number (λ (y : ClientLink). y.number) l.number xs)
-        → IsSome (cond t (Some x) (with_number (λ (y : ClientLink). y.number) l.number xs))
-    by_number true later = refl
-    by_number false later = later
+    of_pair : Option (ClientLink × Kept) → ClientLink
+    of_pair (Some p) = p.0
+    of_pair None = x
 
-    by_kept : (kept : Option Kept) → call_or x kept (first_call daemon xs) ≡ Some (l, k)
-        → (first_call daemon xs ≡ Some (l, k) → IsSome (with_number (λ (y : ClientLink). y.number) l.number xs))
-        → IsSome (cond (x.number == l.number) (Some x) (with_number (λ (y : ClientLink). y.number) l.number xs))
-    by_kept None f later = by_number (x.number == l.number) (later f)
-    by_kept (Some kept) f later =
-        let pair : (let p : ClientLink × Kept = (x, kept) in p) ≡ (l, k) = cc in
-        let number : x.number ≡ l.number = ap (λ (p : ClientLink × Kept). p.0.number) pair in
-        let same : (x.number == l.number) ≡ true = grind (arith, nat_tests, number) in
-        rw same refl
+    here : x ≡ l → IsThere low (x ∷ xs) l
+    here same = subst (IsThere low (x ∷ xs)) same (rising.0, by_test (x.number == x.number) (eq-eqb x.number x.number refl))
+      where
+        by_test : (t : Bool) → t ≡ true → cond t (Some x) (with_number (λ (y : ClientLink). y.number) x.number xs) ≡ Some x
+        by_test true is = refl
+        by_test false is = absurd cc
 
-module _ (daemon : Name) (all : List ClientLink) (link : Link CallStage) (first : IsFirstCall daemon all link) where
-  lives_by : (o : Option Kept) → call_open daemon (ToDaemon link.stage) ≡ o → IsSome (with_number (λ (x : ClientLink). x.number) link.number all)
-  lives_by None keeps = absurd (opened_keeps daemon link.stage first.opened first.called keeps)
-  lives_by (Some kept) keeps = let one = rw keeps at first.first in first_lives daemon all (of_kind ToDaemon link) kept one
+    later : IsThere (x.number + 1) xs l → IsThere low (x ∷ xs) l
+    later h =
+        let low_x : low ≤ x.number = rising.0 in
+        let above : x.number + 1 ≤ l.number = h.0 in
+        (omega arith, by_test (x.number == l.number) (ne_eqb x.number l.number (λ same. omega arith)))
+      where
+        by_test : (t : Bool) → t ≡ false → cond t (Some x) (with_number (λ (y : ClientLink). y.number) l.number xs) ≡ Some l
+        by_test false is = h.1
+        by_test true is = absurd cc
 
-  pub lives : IsSome (with_number (λ (x : ClientLink). x.number) link.number all)
-  lives = lives_by (call_open daemon (ToDaemon link.stage)) refl
+    by_kept : (o : Option Kept) → call_or x o (first_call daemon xs) ≡ Some (l, k) → (first_call daemon xs ≡ Some (l, k) → IsThere (x.number + 1) xs l) → IsThere low (x ∷ xs) l
+    by_kept (Some kept) is more = here (ap of_pair is)
+    by_kept None is more = later (more is)
+
+module _ (daemon : Name) (all : List ClientLink) (link : Link CallStage) (h : AreHeld all) (first : IsFirstCall daemon all link) where
+  found_by : (o : Option Kept) → call_open daemon (ToDaemon link.stage) ≡ o → with_number (λ (x : ClientLink). x.number) link.number all ≡ Some (of_kind ToDaemon link)
+  found_by None keeps = absurd (opened_keeps daemon link.stage first.opened first.called keeps)
+  found_by (Some kept) keeps = let one = rw keeps at first.first in (first_found daemon 0 all (of_kind ToDaemon link) kept h.rising one).1
+
+  pub call_found : with_number (λ (x : ClientLink). x.number) link.number all ≡ Some (of_kind ToDaemon link)
+  call_found = found_by (call_open daemon (ToDaemon link.stage)) refl
+
+  -- the operation was sealed ahead on it
+  pub standing : (o : Option SealedAhead) → IfSome o (IsAheadAt (ToDaemon link.stage)) → IfSome o (IsStanding link.number all)
+  standing None ahead = tt
+  standing (Some a) ahead = record { link = of_kind ToDaemon link; found = call_found; ahead = ahead }
 
 -- ---- it waits, and is sent
 
@@ -202,31 +230,34 @@ module _ (own new : WholeClient) (all : List ClientLink) (daemon : Name) (operat
   abbrev due_to : Outcome WholeClientNode
   due_to = sends_on (node_of (with_pushed daemon operation own) all) sent (seq, operation) reading draw (first_call daemon all)
 
-  module _ (links : List ClientLink) (link : Link CallStage) (row : Made ClientLink) (first : IsFirstCall daemon all link)
+  module _ (links : List ClientLink) (link : Link CallStage) (row : Made SealedAhead) (first : IsFirstCall daemon all link)
       (is : IsSentRow own reading draw sent (seq, operation) link row) where
+    abbrev made_row : Made ClientLink
+    made_row = row_on (of_kind ToDaemon link) row
+
     keeps_as : (o : Option Kept) → call_open daemon (ToDaemon link.stage) ≡ o → kept_open link.stage ≡ o
     keeps_as o keeps = sym (opens_as daemon link.stage first.opened first.called) ∙ keeps
 
     abbrev row_of : Secured → Callee → ℕ → ClientRow
     row_of s callee cookie = entered_before sent (operation_sent (with_pushed daemon operation own) reading draw (seq, operation) link s callee cookie)
 
-    out_by : (out : Effects) (o : Option Kept) → call_open daemon (ToDaemon link.stage) ≡ o → IsCarried (λ (l : ClientLink). l.number) link.number false row all links out
+    out_by : (out : Effects) (o : Option Kept) → call_open daemon (ToDaemon link.stage) ≡ o → IsCarried (λ (l : ClientLink). l.number) link.number false made_row all links out
         → new ≡ with_pushed daemon operation own → IsStep (node_of new links) due_to out × AreHeld links
     out_by out None keeps c n = absurd (opened_keeps daemon link.stage first.opened first.called keeps)
     out_by out (Some (s, (callee, cookie))) keeps c n =
         let one = rw keeps at first.first in
-        let made = is (with_pushed daemon operation own) s callee cookie refl (keeps_as (Some (s, (callee, cookie))) keeps) in
-        let step = steps.row_step abridged_client_link client-forgets-links (with_pushed daemon operation own) (with_pushed daemon operation own) link.number false all links row
+        let made = is.0 (with_pushed daemon operation own) s callee cookie refl (keeps_as (Some (s, (callee, cookie))) keeps) in
+        let step = steps.row_step abridged_client_link client-forgets-links (with_pushed daemon operation own) (with_pushed daemon operation own) link.number false all links made_row
         (row_of s callee cookie) out made h c in
-        let held = steps.row_held abridged_client_link client-forgets-links (with_pushed daemon operation own) link.number false all links row (row_of s callee cookie) out made h c in
+        let held = steps.row_held abridged_client_link client-forgets-links (with_pushed daemon operation own) link.number false all links made_row (row_of s callee cookie) out made h c in
         (rw (one, n) step, held)
 
-    pub out_step : {E : Type 0} (r : Result Effects E) → IfOk r (λ out. IsCarried (λ (l : ClientLink). l.number) link.number false row all links out)
+    pub out_step : {E : Type 0} (r : Result Effects E) → IfOk r (λ out. IsCarried (λ (l : ClientLink). l.number) link.number false made_row all links out)
         → IfOk r (λ _. new ≡ with_pushed daemon operation own) → IfOk r (IsStep (node_of new links) due_to)
     out_step (Err e) c n = tt
     out_step (Ok out) c n = (out_by out (call_open daemon (ToDaemon link.stage)) refl c n).0
 
-    pub out_held : {E : Type 0} (r : Result Effects E) → IfOk r (λ out. IsCarried (λ (l : ClientLink). l.number) link.number false row all links out)
+    pub out_held : {E : Type 0} (r : Result Effects E) → IfOk r (λ out. IsCarried (λ (l : ClientLink). l.number) link.number false made_row all links out)
         → IfOk r (λ _. new ≡ with_pushed daemon operation own) → OnErr r (links ≡ all) → AreHeld links
     out_held (Err e) c n t = rw t h
     out_held (Ok out) c n t = (out_by out (call_open daemon (ToDaemon link.stage)) refl c n).1

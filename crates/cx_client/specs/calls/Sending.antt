@@ -1,5 +1,5 @@
 -- An operation that a client sends, as the rules have it.
-use Rattle.std.specs.Prelude.{ℕ, ◌≡◌, List, [], Option, Some, None, Result, Ok, Err}
+use Rattle.std.specs.Prelude.{ℕ, ◌≡◌, List, [], Option, Some, None, IfSome, Result, Ok, Err}
 use Rattle.cx_base.specs.Names.{Name}
 use Rattle.cx_base.specs.declared.operations.Operation.{Operation}
 use Rattle.cx_client_session.specs.operations.Frames.{kept_open}
@@ -11,6 +11,7 @@ use Rattle.cx_node.specs.declared.rows.Row.{Row as Made}
 use Rattle.cx_node.specs.cx_rules.specs.Links.{Link}
 use Rattle.cx_node.specs.cx_rules.specs.Rows.{arrival, sends_secure}
 use Rattle.cx_node.specs.cx_rules.specs.Secured.{Secured}
+use Rattle.cx_node.specs.cx_rules.specs.cx_secure.specs.declared.sealing.SealedAhead.{SealedAhead}
 use Rattle.cx_client_session.specs.cx_rules_session.specs.ClientRule.{ToDaemon, WholeClient, me, queue_reason, sent_entry}
 use Rattle.cx_client_session.specs.cx_rules_session.specs.Forgets.{abridged_client_link}
 use Rattle.cx_client_session.specs.cx_rules_session.specs.Kinds.{entered_before, of_kind}
@@ -21,8 +22,8 @@ use Rattle.cx_client_events.specs.cx_client_connect.specs.session.Table.{having_
 use Rattle.cx_session.specs.Queue.{push_reply}
 use Rattle.cx_session.specs.declared.outbox.QueueFault.{QueueFault}
 use Rattle.cx_node.specs.steps.Making.{row_due}
-use Rattle.cx_client_events.specs.linking.Kinds.{ClientLink}
 use Rattle.cx_client_events.specs.Machine.{ClientRow}
+use Rattle.cx_client.specs.calls.Ahead.{IsAheadAt, row_on}
 
 -- the number under which an operation waits in a session, with that it was sent, or why it can't wait there
 abbrev pub numbered_in : WholeClient → HeldSession → Operation → Result ℕ QueueFault → Result (ℕ × Entry) Reason
@@ -43,8 +44,10 @@ abbrev pub operation_sent : WholeClient → ℕ → List ℕ → ℕ × Operatio
 operation_sent own reading draw ask link s callee cookie =
     sends_secure (arrival (me own) own (of_kind ToDaemon link) reading draw) s (λ behind. ToDaemon (call.Open behind callee cookie)) [] (operation_message ask)
 
--- the row of that was made, behind what is entered first, whatever sessions the client has behind it
-abbrev pub IsSentRow : WholeClient → ℕ → List ℕ → Entry → ℕ × Operation → Link CallStage → Made ClientLink → Type 0
+-- the row of that was made, by what the link goes on by, behind what is entered first, whatever sessions the client has behind it; where the link goes on,
+-- the operation was sealed ahead on it
+abbrev pub IsSentRow : WholeClient → ℕ → List ℕ → Entry → ℕ × Operation → Link CallStage → Made SealedAhead → Type 0
 IsSentRow own reading draw sent ask link row =
-    (new : WholeClient) (s : Secured) (callee : Callee) (cookie : ℕ) → new.mon_client ≡ own.mon_client → kept_open link.stage ≡ Some (s, (callee, cookie))
-    → as_row new row ≡ row_due abridged_client_link (entered_before sent (operation_sent new reading draw ask link s callee cookie))
+    ((new : WholeClient) (s : Secured) (callee : Callee) (cookie : ℕ) → new.mon_client ≡ own.mon_client → kept_open link.stage ≡ Some (s, (callee, cookie))
+    → as_row new (row_on (of_kind ToDaemon link) row) ≡ row_due abridged_client_link (entered_before sent (operation_sent new reading draw ask link s callee cookie)))
+    × IfSome row.link (IsAheadAt (ToDaemon link.stage))
